@@ -31,7 +31,8 @@ none_read text None e h = refl
 none_read text (Some url) e h = absurd (h url (url_found text url e))
 
 -- what `Url::parse` finds
-pub parsed_is : (text : List ℕ) (r : Option (List ℕ × List ℕ)) → IfSome r (IsUrl text) → IfNone r ((url : List ℕ × List ℕ) → ¬ IsUrl text url) → is_some r ≡ is_address text
+pub parsed_is : (text : List ℕ) (r : Option (List ℕ × List ℕ)) → IfSome r (IsUrl text) → IfNone r ((url : List ℕ × List ℕ) → ¬ IsUrl text url)
+    → is_some r ≡ is_address text
 parsed_is text None found none = sym (none_read text (url_of text) refl none)
 parsed_is text (Some url) found none = sym (address_again text (url, found))
 

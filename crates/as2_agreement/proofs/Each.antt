@@ -50,7 +50,8 @@ module _ {X : Type 0} (one : List X → Data → OrFirstFault X) (Says : Members
     pub distinct : IsDistinct bytes_eq (taken xs)
     pub len : length new ≡ items_len entries
 
-  pub each_read : EachRead → (before : List X) (entries : Items) (xs : List X) → each one before entries ≡ Ok xs → IsDistinct bytes_eq (taken before) → AreRead before entries xs
+  pub each_read : EachRead → (before : List X) (entries : Items) (xs : List X) → each one before entries ≡ Ok xs → IsDistinct bytes_eq (taken before)
+      → AreRead before entries xs
   each_read reads before no_items xs e d =
       let same : before ≡ xs = cc in
       record { new = []; whole = sym same ∙ sym (append-nil before); says = tt; good = tt; distinct = rw (← same) d; len = refl }
@@ -69,7 +70,8 @@ module _ {X : Type 0} (one : List X → Data → OrFirstFault X) (Says : Members
         len = ap suc r.len;
       }
 
-  pub each_again : Again → (before : List X) (entries : Items) (new : List X) → SayEach Says entries new → AllByRecursion Good new → IsDistinct bytes_eq (taken (before ++ new))
+  pub each_again : Again → (before : List X) (entries : Items) (new : List X) → SayEach Says entries new → AllByRecursion Good new
+      → IsDistinct bytes_eq (taken (before ++ new))
       → each one before entries ≡ Ok (before ++ new)
   each_again again before no_items [] s g d = ap Ok (sym (append-nil before))
   each_again again before no_items (x ∷ others) s g d = absurd s

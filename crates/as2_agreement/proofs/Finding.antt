@@ -30,7 +30,8 @@ module _ {X : Type 0} (name : X → List ℕ) where
       rw differs (found_at ys x k (IsDistinct-tail bytes_eq (name y) (map name ys) d) (omega (arith, short)) here)
 
   -- the member that has the name is found
-  pub only_member : (xs : List X) (wanted : List ℕ) (x : X) → IsDistinct bytes_eq (map name xs) → Contains xs x → name x ≡ wanted → find (has wanted) xs ≡ Some x
+  pub only_member : (xs : List X) (wanted : List ℕ) (x : X) → IsDistinct bytes_eq (map name xs) → Contains xs x → name x ≡ wanted
+      → find (has wanted) xs ≡ Some x
   only_member xs wanted x d c same = subst (λ (w : List ℕ). find (has w) xs ≡ Some x) same (found_at xs x c.0 d c.1 c.2)
 
   -- what is found has the name, and what all have

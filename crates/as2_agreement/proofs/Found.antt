@@ -25,7 +25,8 @@ use Rattle.as2_agreement.proofs.Members.{organization_name, partner_name, IsOrga
 
 -- ---- arrays
 
-entries_ok : (k : Key) (most : ℕ) (document : Members) (es : Items) → entries k most document ≡ Ok es → (value_at k document ≡ Some (array es)) × (items_len es ≤ most)
+entries_ok : (k : Key) (most : ℕ) (document : Members) (es : Items) → entries k most document ≡ Ok es → (value_at k document ≡ Some (array es))
+    × (items_len es ≤ most)
 entries_ok k most document es e =
     let (all, read, fits) = bound (present k (value_at k document) >>= (λ d. of_kind k (as_array d))) (few most) es e in
     let (d, here, kind) = bound (present k (value_at k document)) (λ d. of_kind k (as_array d)) all read in
@@ -33,7 +34,8 @@ entries_ok k most document es e =
     let short : items_len all ≤ most = grind (arith, nat_tests) in
     (present_ok k (value_at k document) d here ∙ ap Some (as_array_ok d all (of_kind_ok k (as_array d) all kind) ∙ ap array g.1), rw (← g.1) short)
 
-entries_again : (k : Key) (most : ℕ) (document : Members) (es : Items) → value_at k document ≡ Some (array es) → items_len es ≤ most → entries k most document ≡ Ok es
+entries_again : (k : Key) (most : ℕ) (document : Members) (es : Items) → value_at k document ≡ Some (array es) → items_len es ≤ most
+    → entries k most document ≡ Ok es
 entries_again k most document es h short =
     let fits : nat_le (items_len es) most ≡ true = grind (arith, nat_tests) in
     rw (h, fits) refl
@@ -79,7 +81,8 @@ pub record ArePartners (document : Members) (os : List Organization) (ps : List 
   pub few : length ps ≤ partners_limit
   pub distinct : IsDistinct bytes_eq (names os ps)
 
-pub partners_ok : (document : Members) (os : List Organization) (ps : List Partner) → IsDistinct bytes_eq (map organization_name os) → partners os document ≡ Ok ps
+pub partners_ok : (document : Members) (os : List Organization) (ps : List Partner) → IsDistinct bytes_eq (map organization_name os)
+    → partners os document ≡ Ok ps
     → ArePartners document os ps
 partners_ok document os ps d e =
     let (es, at, read) = bound (entries key.Partner partners_limit document) (each (partner os) []) ps e in
@@ -97,7 +100,8 @@ partners_again document os ps a =
     let at = entries_again key.Partner partners_limit document es a.says.1 (omega (arith, len, a.few)) in
     rw at (each_again (partner os) SaysPartner IsPartner partner_name (map organization_name os) (partner_again os) [] es ps a.says.2 a.good a.distinct)
 
-all_front : (x : List ℕ) (front back : List (List ℕ)) → AllByRecursion (λ z. bytes_eq x z ≡ false) (front ++ back) → AllByRecursion (λ z. bytes_eq x z ≡ false) front
+all_front : (x : List ℕ) (front back : List (List ℕ)) → AllByRecursion (λ z. bytes_eq x z ≡ false) (front ++ back)
+    → AllByRecursion (λ z. bytes_eq x z ≡ false) front
 all_front x [] back h = tt
 all_front x (y ∷ front) back h = (h.0, all_front x front back h.1)
 
@@ -234,7 +238,8 @@ reading_again t a g = rw g.parsed (agreements_again g.document a g.says g.are)
 -- ---- answers
 
 -- what a document gives, its text gives
-pub given_by : (t : List ℕ) (document : Members) (r : OrFirstFault AgreedValues) → parse_document t ≡ Some document → GivesOrMemory (λ a. a) r (agreements document) → OrMemory r (agreements_reading t)
+pub given_by : (t : List ℕ) (document : Members) (r : OrFirstFault AgreedValues) → parse_document t ≡ Some document
+    → GivesOrMemory (λ a. a) r (agreements document) → OrMemory r (agreements_reading t)
 given_by t document (Ok a) parsed g = inl (sym (rw parsed g))
 given_by t document (Err f) parsed (inl e) = inl (sym (rw parsed e))
 given_by t document (Err f) parsed (inr memory) = inr (ap Err memory)
@@ -244,6 +249,7 @@ found_by t (Err f) o = tt
 found_by t (Ok a) (inl same) = reading_found t a (sym same)
 found_by t (Ok a) (inr other) = absurd cc
 
-pub only_by : (t : List ℕ) (r : OrFirstFault AgreedValues) → OrMemory r (agreements_reading t) → (a : AgreedValues) → IsAgreement t a → (r ≡ Ok a) ⊎ (r ≡ Err fault.Memory)
+pub only_by : (t : List ℕ) (r : OrFirstFault AgreedValues) → OrMemory r (agreements_reading t) → (a : AgreedValues) → IsAgreement t a → (r ≡ Ok a)
+    ⊎ (r ≡ Err fault.Memory)
 only_by t r (inl same) a g = inl (same ∙ reading_again t a g)
 only_by t r (inr memory) a g = inr memory

@@ -53,7 +53,8 @@ either true m b is never = refl
 either false true b is never = absurd (never is)
 either false false b is never = cc
 
-given_success : (migrated : Bool) (r : Receipt) (content : Text) → gives migrated r content detail.Processed ≡ true → verdict AllDigests r content ≡ detail.Processed
+given_success : (migrated : Bool) (r : Receipt) (content : Text) → gives migrated r content detail.Processed ≡ true
+    → verdict AllDigests r content ≡ detail.Processed
 given_success migrated r content is =
     one_name (verdict AllDigests r content)
     (either (is_detail (verdict AllDigests r content) detail.Processed) (migrated && is_by_late r.mic) (is_detail (verdict AllDigests (record r { mic = Unreadable }) content) detail.Processed) is

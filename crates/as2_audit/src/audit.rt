@@ -35,7 +35,8 @@ fn sent_at<R: Records>(
     migrated: bool,
     number: u64,
 ) -> Result<Option<Fault>, StoreFault>
-    ensures fault { Reads (λ s fault. is_migrated s ≡ migrated → fault ≡ sent_at s number) (R.shows records.old) (R.shows records.new) result }
+    ensures fault { Reads (λ s fault. is_migrated s ≡ migrated
+        → fault ≡ sent_at s number) (R.shows records.old) (R.shows records.new) result }
     ensures may { IfErr result (λ f. may_come f ≡ true) }
 {
     match records.find_out(alloc, number)? {
@@ -73,7 +74,8 @@ pub fn add_received_findings<R: Records, W: Watch>(
     findings: &mut Vec<Finding>,
     watch: &mut W,
 ) -> Result<u64, StoreFault>
-    ensures found { Reads (λ s count. (findings.new.items ≡ findings.old.items ++ received_findings s) × (count ≡ length s.inbox)) (R.shows records.old) (R.shows records.new) result }
+    ensures found { Reads (λ s count. (findings.new.items ≡ findings.old.items ++ received_findings s)
+        × (count ≡ length s.inbox)) (R.shows records.old) (R.shows records.new) result }
     ensures may { IfErr result (λ f. may_come f ≡ true) }
 {
     let rows = records.list_in(alloc)?;
@@ -94,7 +96,8 @@ pub fn add_sent_findings<R: Records, W: Watch>(
     findings: &mut Vec<Finding>,
     watch: &mut W,
 ) -> Result<u64, StoreFault>
-    ensures found { Reads (λ s count. (findings.new.items ≡ findings.old.items ++ sent_findings s) × (count ≡ length s.outbox)) (R.shows records.old) (R.shows records.new) result }
+    ensures found { Reads (λ s count. (findings.new.items ≡ findings.old.items ++ sent_findings s)
+        × (count ≡ length s.outbox)) (R.shows records.old) (R.shows records.new) result }
     ensures may { IfErr result (λ f. may_come f ≡ true) }
 {
     let origin = records.origin()?;

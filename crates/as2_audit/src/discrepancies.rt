@@ -45,7 +45,8 @@ pub fn add_discrepancy<R: Records>(
     alloc: Global,
     findings: &mut Vec<Finding>,
 ) -> Result<(), StoreFault>
-    ensures none { Reads (λ s done. findings.new.items ≡ findings.old.items) (R.shows records.old) (R.shows records.new) result }
+    ensures none { Reads (λ s done. findings.new.items
+        ≡ findings.old.items) (R.shows records.old) (R.shows records.new) result }
     ensures may { IfErr result (λ f. may_come f ≡ true) }
 {
     let discrepancy = records.discrepancy(alloc)?;

@@ -62,7 +62,8 @@ fn add_findings(alloc: Global, text: &mut Vec<u8>, findings: &[Finding]) -> Resu
 
 /// The lines of findings, and the one of how many entries there are.
 fn lines(alloc: Global, findings: &[Finding], received: u64, sent: u64) -> Result<Vec<u8>, Memory>
-    ensures { IfOk result (λ text. text.items ≡ flat_map finding_line findings.now ++ summary_line received sent (length findings.now)) }
+    ensures { IfOk result (λ text. text.items
+        ≡ flat_map finding_line findings.now ++ summary_line received sent (length findings.now)) }
 {
     let mut text = Vec::new(alloc);
     add_findings(alloc, &mut text, findings)?;
@@ -78,7 +79,8 @@ pub fn verify<R: Records, W: Watch>(
     alloc: Global,
     watch: &mut W,
 ) -> Result<Verification, StoreFault>
-    ensures verified { Reads (λ s v. (v.text.items ≡ verification s) × (v.findings ≡ length (findings s))) (R.shows records.old) (R.shows records.new) result }
+    ensures verified { Reads (λ s v. (v.text.items ≡ verification s)
+        × (v.findings ≡ length (findings s))) (R.shows records.old) (R.shows records.new) result }
     ensures may { IfErr result (λ f. may_come f ≡ true) }
 {
     let mut findings = Vec::new(alloc);

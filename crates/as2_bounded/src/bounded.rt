@@ -10,7 +10,7 @@ ghost use Rattle.as2_bounded.specs.Rooms.{room_behind, room_of};
 use as2_exchange::{END_OF_NUMBERS, Evidence, InEntry, OutEntry, StoreFault};
 use as2_mdn::{Detail, DetailClass};
 use as2_records::{
-    Counts, Discrepancy, InRow, ReceiptProgress, NextNumbers, OutRow, Progress, Records,
+    Counts, Discrepancy, InRow, NextNumbers, OutRow, Progress, ReceiptProgress, Records,
 };
 use as2_text::{AsName, Moment};
 use std::alloc::Global;

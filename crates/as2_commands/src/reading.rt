@@ -214,7 +214,8 @@ fn wanted<'a>(own: &ArgMatches<'a>) -> Result<Wanted<'a>, OptionFault<'a>>
 /// The question of `show`.
 fn showing<'a>(own: &ArgMatches<'a>) -> Result<Question<Submission<'a>>, OptionFault<'a>>
     ensures given { IfOk result (AsksShow (rows_of (found_of own.now))) }
-    ensures none { IfErr result (λ _. (n : ℕ) (form : TheFormat) → ¬ AsksShow (rows_of (found_of own.now)) (Show n form)) }
+    ensures none { IfErr result (λ _. (n : ℕ) (form : TheFormat)
+        → ¬ AsksShow (rows_of (found_of own.now)) (Show n form)) }
 {
     let number = entry(own)?;
     let format = format(own)?;

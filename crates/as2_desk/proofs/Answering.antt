@@ -24,7 +24,8 @@ use Rattle.as2_host.specs.declared.stores.OpenFault.TheVariants as open_fault
 
 -- an event is by history, and that is told of what was said to it
 pub ends_by : {M : Medium} {X : Type 0} (A : AgreedValues) (e : Event) (tell : X
-    → Answer) (old new : Standing M) (r : Result X StoreFault) (q : QuestionInHand) (told : ToPrint) → TakesEvent A e tell old new r → IsToldOf q (said_as tell r) told
+    → Answer) (old new : Standing M) (r : Result X StoreFault) (q : QuestionInHand) (told : ToPrint) → TakesEvent A e tell old new r
+    → IsToldOf q (said_as tell r) told
     → new.IsClean → (s : State) → old.Rests s → (t : State) × new.Rests t × EndsBy A q e s t told
 ends_by A e tell old new r q told takes is clean s rests =
     let by = takes.by_history clean s rests in (by.0, by.1, (said_as tell r, is, by.2))
@@ -34,7 +35,8 @@ never_full : (f : StoreFault) → may_come f ≡ true → open_fault.Store f ≡
 never_full f may is = let full : f ≡ Full = cc in let bad : may_come Full ≡ true = subst (λ g. may_come g ≡ true) full may in cc
 
 -- a fault of a text that was read, or of one that only some numbers have
-pub read_may : {V : Type 0} (q : QuestionInHand) (text : V → List ℕ) (r : Result V StoreFault) → IfErr r (λ f. may_come f ≡ true) → FaultMayCome q (read_told text r)
+pub read_may : {V : Type 0} (q : QuestionInHand) (text : V → List ℕ) (r : Result V StoreFault) → IfErr r (λ f. may_come f ≡ true)
+    → FaultMayCome q (read_told text r)
 read_may q text (Ok v) may = tt
 read_may q text (Err f) may = inr may
 
@@ -67,7 +69,8 @@ answer_may q answer.AlreadySettled told is = absurd cc
 answer_may q answer.Resent told is = resend_may q q told is
 
 -- .. or of an event
-pub event_may : {X : Type 0} (q : QuestionInHand) → is_event q ≡ true → (tell : X → Answer) (r : Result X StoreFault) (told : ToPrint) → IsToldOf q (said_as tell r) told
+pub event_may : {X : Type 0} (q : QuestionInHand) → is_event q ≡ true → (tell : X → Answer) (r : Result X StoreFault) (told : ToPrint)
+    → IsToldOf q (said_as tell r) told
     → IfErr r (λ f. (f ≡ Full) ⊎ (may_come f ≡ true)) → FaultMayCome q told
 event_may q is tell (Ok a) told it may = answer_may q (tell a) told it
 event_may q is tell (Err f) told it may = subst (FaultMayCome q) (sym it) (elim may [ inl full ↦ inl (full, is) | inr other ↦ inr other ])

@@ -151,7 +151,8 @@ pub(crate) fn ask<K: Records, R, W: Sink, H, E: Sink>(
     question: Question<NewDocument>,
     console: &mut Console<R, W, H, E>,
 ) -> Ran
-    ensures status { (result.status ≡ status_done) ⊎ ((result.status ≡ status_refused) ⊎ (result.status ≡ status_failed)) }
+    ensures status { (result.status ≡ status_done)
+        ⊎ ((result.status ≡ status_refused) ⊎ (result.status ≡ status_failed)) }
     ensures unread { console.new.input ≡ console.old.input }
     ensures clean { (K.shows station.new).IsClean → (K.shows station.old).IsClean }
     ensures asks { (known : Option State)
@@ -191,7 +192,8 @@ fn print<W: Sink, E: Sink>(
     output: &mut W,
     errors: &mut E,
 ) -> Ran
-    ensures status { (result.status ≡ status_done) ⊎ ((result.status ≡ status_refused) ⊎ (result.status ≡ status_failed)) }
+    ensures status { (result.status ≡ status_done)
+        ⊎ ((result.status ≡ status_refused) ⊎ (result.status ≡ status_failed)) }
     ensures prints { Prints (told_as told) (written_of W.Sink output.old output.new)
         (written_of E.Sink errors.old errors.new) result }
     ensures store { result.status ≡ status_failed → (output.new ≡ output.old)

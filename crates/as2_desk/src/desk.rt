@@ -69,7 +69,8 @@ pub fn run<
         → Runs (F.content host.old.outside.files) path task
         (record {
           input = input_of R.Source console.old console.new;
-          outcome = console_outcome W.Sink E.Sink console.old console.new (Leaves store (O.keeps host.new.stores store));
+          outcome = console_outcome W.Sink E.Sink console.old console.new
+              (Leaves store (O.keeps host.new.stores store));
           filing = filing_of F.MakeFiles host.old.outside.files host.new.outside.files;
           Unasked = host.new.outside.network ≡ host.old.outside.network;
           Exchanged = ExchangedOver N.Network N.Links.Links host.old.outside.network host.new.outside.network;
@@ -100,7 +101,8 @@ pub fn run<
         × (host.new.stores ≡ host.old.stores) × (host.new.outside ≡ host.old.outside) }
     // A store with a fault is told, and nothing is read or written then; what was sent or served before stands, with its lines.
     ensures store { result.status ≡ status_failed
-        → StopsAtFault (WordsAskFor (texts words.entry.now) clock IsSending) (WordsAskFor (texts words.entry.now) clock IsServing)
+        → StopsAtFault (WordsAskFor (texts words.entry.now) clock IsSending)
+        (WordsAskFor (texts words.entry.now) clock IsServing)
         (input_of R.Source console.old console.new) (output_of W.Sink console.old console.new)
         (errors_of E.Sink console.old console.new) result }
 {
@@ -135,7 +137,8 @@ fn carry_out<
     host: &mut Host<F, O, N>,
     console: &mut Console<R, W, H, E>,
 ) -> Ran
-    ensures status { (result.status ≡ status_done) ⊎ ((result.status ≡ status_refused) ⊎ (result.status ≡ status_failed)) }
+    ensures status { (result.status ≡ status_done)
+        ⊎ ((result.status ≡ status_refused) ⊎ (result.status ≡ status_failed)) }
     ensures comes { DoesTask (F.content host.old.outside.files) agreed options.entry.task
         (record {
           input = input_of R.Source console.old console.new;
@@ -206,7 +209,8 @@ fn is_unread(agreed: &Result<Agreements, CommandFault>) -> bool {
 
 /// Says why nothing is run: help and the version on `output`, a fault on `errors`.
 fn tell<W: Sink, E: Sink>(alloc: Global, error: &Error, output: &mut W, errors: &mut E) -> Ran
-    ensures status { (result.status ≡ status_done) ⊎ ((result.status ≡ status_refused) ⊎ (result.status ≡ status_faulty)) }
+    ensures status { (result.status ≡ status_done)
+        ⊎ ((result.status ≡ status_refused) ⊎ (result.status ≡ status_faulty)) }
     ensures fault { ¬ IsHelp (kind_of error.now)
         → ((result.status ≡ status_faulty) ⊎ EndsRefused Memory (written_of E.Sink errors.old errors.new) result)
         × (output.new ≡ output.old) }

@@ -68,7 +68,8 @@ pub(crate) fn migrate<F, O: OpenStores, N, R, W: Sink, H: Write, E: Sink>(
     host: &mut Host<F, O, N>,
     console: &mut Console<R, W, H, E>,
 ) -> Ran
-    ensures status { (result.status ≡ status_done) ⊎ ((result.status ≡ status_refused) ⊎ (result.status ≡ status_failed)) }
+    ensures status { (result.status ≡ status_done)
+        ⊎ ((result.status ≡ status_refused) ⊎ (result.status ≡ status_failed)) }
     ensures unread { console.new.input ≡ console.old.input }
     ensures unasked { host.new.outside ≡ host.old.outside }
     ensures migrates { DoesMigration (stored_of O.OpenStores host.old.stores host.new.stores path.now)

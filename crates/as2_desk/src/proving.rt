@@ -99,7 +99,8 @@ fn make_what_came<F: MakeFiles, R, W: Sink, H, E: Sink>(
     maker: &mut F,
     console: &mut Console<R, W, H, E>,
 ) -> Ran
-    ensures status { (result.status ≡ status_done) ⊎ ((result.status ≡ status_refused) ⊎ (result.status ≡ status_failed)) }
+    ensures status { (result.status ≡ status_done)
+        ⊎ ((result.status ≡ status_refused) ⊎ (result.status ≡ status_failed)) }
     ensures unread { console.new.input ≡ console.old.input }
     ensures makes { MakesWhatCame folder.now (came_of (λ v. files_of v.items) came)
         (filing_of F.MakeFiles maker.old maker.new)
@@ -128,7 +129,8 @@ pub(crate) fn prove<K: Records, F: MakeFiles, R, W: Sink, H, E: Sink>(
     maker: &mut F,
     console: &mut Console<R, W, H, E>,
 ) -> Ran
-    ensures status { (result.status ≡ status_done) ⊎ ((result.status ≡ status_refused) ⊎ (result.status ≡ status_failed)) }
+    ensures status { (result.status ≡ status_done)
+        ⊎ ((result.status ≡ status_refused) ⊎ (result.status ≡ status_failed)) }
     ensures unread { console.new.input ≡ console.old.input }
     ensures clean { (K.shows records.new).IsClean → (K.shows records.old).IsClean }
     ensures proves { (known : Option State)

@@ -28,7 +28,8 @@ pub(crate) fn send_due<K: Records, L: Links, R, W: Sink, H: Write, E: Sink>(
     links: &mut L,
     console: &mut Console<R, W, H, E>,
 ) -> Ran
-    ensures status { (result.status ≡ status_done) ⊎ ((result.status ≡ status_refused) ⊎ (result.status ≡ status_failed)) }
+    ensures status { (result.status ≡ status_done)
+        ⊎ ((result.status ≡ status_refused) ⊎ (result.status ≡ status_failed)) }
     ensures unread { console.new.input ≡ console.old.input }
     ensures clean { (K.shows station.new).IsClean → (K.shows station.old).IsClean }
     ensures sends { (known : Option State)
@@ -53,7 +54,8 @@ pub(crate) fn send_due<K: Records, L: Links, R, W: Sink, H: Write, E: Sink>(
 
 /// Tells what sending came to.
 fn tell_sent<E: Sink>(sent: Sent, errors: &mut E) -> Ran
-    ensures status { (result.status ≡ status_done) ⊎ ((result.status ≡ status_refused) ⊎ (result.status ≡ status_failed)) }
+    ensures status { (result.status ≡ status_done)
+        ⊎ ((result.status ≡ status_refused) ⊎ (result.status ≡ status_failed)) }
     ensures told { TellsSent sent (written_of E.Sink errors.old errors.new) result }
     ensures store { result.status ≡ status_failed
         → (fault : TheFault) × EndsRefused (Failing fault) (written_of E.Sink errors.old errors.new) result }

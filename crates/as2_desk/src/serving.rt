@@ -148,7 +148,8 @@ pub(crate) fn serve<K: Records, N: Network, R, W: Sink, H: Write + Journal + Cou
     network: &mut N,
     console: &mut Console<R, W, H, E>,
 ) -> Ran
-    ensures status { (result.status ≡ status_done) ⊎ ((result.status ≡ status_refused) ⊎ (result.status ≡ status_failed)) }
+    ensures status { (result.status ≡ status_done)
+        ⊎ ((result.status ≡ status_refused) ⊎ (result.status ≡ status_failed)) }
     ensures unread { console.new.input ≡ console.old.input }
     ensures store { result.status ≡ status_failed → FailsBehind (errors_of E.Sink console.old console.new) result }
     ensures clean { (K.shows station.new).IsClean → (K.shows station.old).IsClean }

@@ -59,7 +59,8 @@ fn print_audit<W: Sink, E: Sink>(
     output: &mut W,
     errors: &mut E,
 ) -> Ran
-    ensures status { (result.status ≡ status_done) ⊎ ((result.status ≡ status_refused) ⊎ (result.status ≡ status_failed)) }
+    ensures status { (result.status ≡ status_done)
+        ⊎ ((result.status ≡ status_refused) ⊎ (result.status ≡ status_failed)) }
     ensures prints { PrintsAudit came (written_of W.Sink output.old output.new)
         (written_of E.Sink errors.old errors.new) result }
     ensures store { result.status ≡ status_failed → (output.new ≡ output.old)
@@ -85,12 +86,14 @@ pub(crate) fn look_through<K: Records, R, W: Sink, H: Watch, E: Sink>(
     records: &mut K,
     console: &mut Console<R, W, H, E>,
 ) -> Ran
-    ensures status { (result.status ≡ status_done) ⊎ ((result.status ≡ status_refused) ⊎ (result.status ≡ status_failed)) }
+    ensures status { (result.status ≡ status_done)
+        ⊎ ((result.status ≡ status_refused) ⊎ (result.status ≡ status_failed)) }
     ensures unread { console.new.input ≡ console.old.input }
     ensures clean { (K.shows records.new).IsClean → (K.shows records.old).IsClean }
     ensures verifies { (known : Option State)
         → IfSome known (λ s. (K.shows records.new).IsClean × (K.shows records.old).Rests s)
-        → Verifies format known (console_outcome W.Sink E.Sink console.old console.new (λ t. (K.shows records.new).Rests t))
+        → Verifies format known
+        (console_outcome W.Sink E.Sink console.old console.new (λ t. (K.shows records.new).Rests t))
         result }
     ensures store { result.status ≡ status_failed → (console.new.output ≡ console.old.output)
         × ((fault : TheFault) × EndsRefused (Failing fault) (errors_of E.Sink console.old console.new) result) }

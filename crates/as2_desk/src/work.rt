@@ -120,7 +120,8 @@ fn do_at<
     outside: &mut Outside<F, N>,
     console: &mut Console<R, W, H, E>,
 ) -> Ran
-    ensures status { (result.status ≡ status_done) ⊎ ((result.status ≡ status_refused) ⊎ (result.status ≡ status_failed)) }
+    ensures status { (result.status ≡ status_done)
+        ⊎ ((result.status ≡ status_refused) ⊎ (result.status ≡ status_failed)) }
     ensures unmade { outside.new.files ≡ outside.old.files }
     ensures clean { (K.shows station.new).IsClean → (K.shows station.old).IsClean }
     ensures does { (known : Option State)
@@ -134,7 +135,8 @@ fn do_at<
           listening = listening_of N.Network N.Listener.Listens outside.old.network outside.new.network;
         }) result }
     ensures store { result.status ≡ status_failed
-        → StopsAtFault (IsSendCommand command.entry) (ServesIt command.entry) (input_of R.Source console.old console.new)
+        → StopsAtFault (IsSendCommand command.entry) (ServesIt command.entry)
+        (input_of R.Source console.old console.new)
         (output_of W.Sink console.old console.new) (errors_of E.Sink console.old console.new) result }
 {
     match command {
@@ -166,7 +168,8 @@ fn do_over<
     outside: &mut Outside<F, N>,
     console: &mut Console<R, W, H, E>,
 ) -> (Ran, Option<K>)
-    ensures status { (result.0.status ≡ status_done) ⊎ ((result.0.status ≡ status_refused) ⊎ (result.0.status ≡ status_failed)) }
+    ensures status { (result.0.status ≡ status_done)
+        ⊎ ((result.0.status ≡ status_refused) ⊎ (result.0.status ≡ status_failed)) }
     ensures fails { IfErr records (λ fault. (result.1 ≡ None) × (outside.new.files ≡ outside.old.files)
         × (outside.new.network ≡ outside.old.network) × (console.new.input ≡ console.old.input)
         × (console.new.output ≡ console.old.output)
@@ -269,7 +272,8 @@ pub(crate) fn work_over<
     host: &mut Host<F, O, N>,
     console: &mut Console<R, W, H, E>,
 ) -> Ran
-    ensures status { (result.status ≡ status_done) ⊎ ((result.status ≡ status_refused) ⊎ (result.status ≡ status_failed)) }
+    ensures status { (result.status ≡ status_done)
+        ⊎ ((result.status ≡ status_refused) ⊎ (result.status ≡ status_failed)) }
     ensures goes { Goes terms.now.agreements.now (record {
       first = store.entry.first;
       moment = terms.now.moment;

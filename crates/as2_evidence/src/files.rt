@@ -24,7 +24,8 @@ fn add_file(
     end: &str,
     bytes: Pieces,
 ) -> Result<(), Memory>
-    ensures { OnOk result (files_of files.new.items ≡ files_of files.old.items ++ file_named stem.now end.now bytes ∷ []) }
+    ensures { OnOk result (files_of files.new.items
+        ≡ files_of files.old.items ++ file_named stem.now end.now bytes ∷ []) }
 {
     let name = format!(in alloc; "{stem}{end}")?;
     files.push(NewFile { name, bytes })?;

@@ -11,7 +11,7 @@ use crate::lines::{add_check_commands, add_checks, add_found, stem};
 use crate::words::{kept_words, receipt_stage_words, shown_text};
 use as2_agreement::Agreements;
 use as2_audit::{Mailbox, received_fault};
-use as2_exchange::{InEntry, ReceiptStage, Posted};
+use as2_exchange::{InEntry, Posted, ReceiptStage};
 use as2_mdn::write_receipt;
 use as2_messages::date_of;
 use as2_mic::Pieces;
@@ -87,7 +87,8 @@ fn received_page(alloc: Global, entry: &InEntry, came: &[u8]) -> Result<Vec<u8>,
 /// The body of the receipt that the station gives for a document.
 #[tactic(auto, unfolding(as2_exchange::specs::Readings::receipt_bytes))]
 fn receipt_of(alloc: Global, agreements: &Agreements, entry: &InEntry) -> Result<Pieces, Memory>
-    ensures { IfOk result (λ bytes. bytes ≡ receipt_bytes (receipt_out agreements.now entry.now.number entry.now.posted)) }
+    ensures { IfOk result (λ bytes. bytes
+        ≡ receipt_bytes (receipt_out agreements.now entry.now.number entry.now.posted)) }
 {
     let out = receipt_out(agreements, entry.number, &entry.posted)?;
     let text = write_receipt(alloc, &out)?;

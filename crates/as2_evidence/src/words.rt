@@ -3,7 +3,7 @@ ghost use Rattle.std.specs.Prelude.{◌≡◌, ◌++◌, IfOk, OnOk, option_map}
 ghost use Rattle.as2_evidence.specs.Words.{detail_words, disposition_words, given_words, kept_words, receipt_stage_words, modifier_words, shown_byte, shown_text, taken_words};
 ghost use Rattle.as2_mdn.specs.Receipts.{mic_of};
 
-use as2_exchange::{ReceiptStage, ReceiptDelivery};
+use as2_exchange::{ReceiptDelivery, ReceiptStage};
 use as2_mdn::{Detail, Disposition, MicPart, ReceiptMic};
 use std::alloc::{AllocError, Global};
 

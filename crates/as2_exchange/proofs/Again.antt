@@ -40,10 +40,12 @@ if_alike false x y z w h g = g
 refused_alike : (line : Line) → Alike (Refuses line) (Refuses line)
 refused_alike line = never_document (Refuses line) (Refuses line) (λ p is. cc)
 
-report_alike : (k l : Digests) (names : Text × Text) (type : MediaType × Text) (body : Text) → Alike (report_posted k names type body) (report_posted l names type body)
+report_alike : (k l : Digests) (names : Text × Text) (type : MediaType × Text) (body : Text)
+    → Alike (report_posted k names type body) (report_posted l names type body)
 report_alike k l names type body = needs_alike (report_in type.0 body) UnreadableReceipt _ _ (λ r. never_document _ _ (λ p is. cc))
 
-document_alike : (k l : Digests) (names : Text × Text) (type : MediaType × Text) (head : Head) (body : Text) → Alike (document_posted k names type head body) (document_posted l names type head body)
+document_alike : (k l : Digests) (names : Text × Text) (type : MediaType × Text) (head : Head) (body : Text)
+    → Alike (document_posted k names type head body) (document_posted l names type head body)
 document_alike k l names type head body =
     needs_alike (id_of head) BadId _ _ (λ id.
     needs_alike (ask_of head) BadAsk _ _ (λ ask p is. (_, refl, made p _ (same_document _ _ is))))
@@ -75,7 +77,8 @@ run_origin A old (AnEvent e (Answered a) ∷ rest) new run =
     let steady = step_steady A old e (a, run.0) run.1 in
     on run.0 steady.0 steady.1 (run_origin A run.0 rest new run.2)
   where
-    on : (mid : State) → mid.version ≡ old.version → old.next_in ≤ mid.next_in → (new.version ≡ mid.version) ⊎ (mid.next_in ≤ origin_of new.version) → (new.version ≡ old.version) ⊎ (old.next_in ≤ origin_of new.version)
+    on : (mid : State) → mid.version ≡ old.version → old.next_in ≤ mid.next_in → (new.version ≡ mid.version) ⊎ (mid.next_in ≤ origin_of new.version)
+        → (new.version ≡ old.version) ⊎ (old.next_in ≤ origin_of new.version)
     on mid same more (inl is) = inl (is ∙ same)
     on mid same more (inr is) = inr (omega (arith, more, is))
 run_origin A old (AnEvent e (Failed fault) ∷ rest) new run = run_origin A old rest new run.1
@@ -91,20 +94,23 @@ run_origin A old (AMigration n ∷ rest) new run = on (run_origin A (migrated_st
 WasNew : Agreements → State → ℕ → Posted → Answer × State → Type 0
 WasNew A s m p y = (received_as s p ≡ None) × (y ≡ (answer_to A s.next_in p, record s { inbox = s.inbox ++ first_entry s.next_in m p ∷ []; next_in = s.next_in + 1 }))
 
-new_document_is : (A : Agreements) (s : State) (m : ℕ) (p : Posted) (y : Answer × State) → s.next_in < y.1.next_in → RecordedOrSame A s m p (received_as s p) y → WasNew A s m p y
+new_document_is : (A : Agreements) (s : State) (m : ℕ) (p : Posted) (y : Answer × State) → s.next_in < y.1.next_in
+    → RecordedOrSame A s m p (received_as s p) y → WasNew A s m p y
 unfolding WasNew
 new_document_is A s m p y grew (fresh none small is) = (none, is)
 new_document_is A s m p y grew (repeated e there same is) = absurd (let at : y.1.next_in ≡ s.next_in = ap (λ (z : Answer × State). z.1.next_in) is in omega arith)
 new_document_is A s m p y grew (clash e there other is) = absurd (let at : y.1.next_in ≡ s.next_in = ap (λ (z : State). z.next_in) is in omega arith)
 
-was_new : (A : Agreements) (s : State) (m : ℕ) (r : Reading) (y : Answer × State) → post A s m r ≡ Some y → s.next_in < y.1.next_in → (p : Posted) × (r ≡ IsDocument p) × WasNew A s m p y
+was_new : (A : Agreements) (s : State) (m : ℕ) (r : Reading) (y : Answer × State) → post A s m r ≡ Some y → s.next_in < y.1.next_in → (p : Posted)
+    × (r ≡ IsDocument p) × WasNew A s m p y
 unfolding record_post
 was_new A s m (Refuses line) y h grew = absurd (let at : s.next_in ≡ y.1.next_in = ap (λ (z : Answer × State). z.1.next_in) (same_Some _ y h) in omega arith)
 was_new A s m (IsReceipt r) y h grew = absurd (let at : (settle s m r).1.next_in ≡ y.1.next_in = ap (λ (z : Answer × State). z.1.next_in) (same_Some _ y h) in let same : (settle s m r).1.next_in ≡ s.next_in = (settle_inbox s m r).1 in omega arith)
 was_new A s m (IsDocument p) y h grew = (p, refl, new_document_is A s m p y grew (left_is A s m p (received_as s p) y h))
 
 -- the entry is found again, however many came behind it
-found_later : (s t u : State) (n m : ℕ) (p : Posted) → received_as s p ≡ None → recorded_posts t ≡ recorded_posts s ++ (n, p) ∷ [] → Grows t u → option_map lasting_part (received_as u p) ≡ Some (n, p)
+found_later : (s t u : State) (n m : ℕ) (p : Posted) → received_as s p ≡ None → recorded_posts t ≡ recorded_posts s ++ (n, p) ∷ [] → Grows t u
+    → option_map lasting_part (received_as u p) ≡ Some (n, p)
 found_later s t u n m p none is grows =
     sym (find-lasting p u.inbox)
     ∙ ap (find key) (grows.1 ∙ ap (λ (l : List (ℕ × Posted)). l ++ grows.0) is)
@@ -118,7 +124,8 @@ found_later s t u n m p none is grows =
     first = find-append key (recorded_posts s) ((n, p) ∷ []) ∙ rw (find-lasting p s.inbox, none, key_same p) refl
 
 -- a post that is read now repeats what was read then
-repeats_still : (old new : State) (n : ℕ) (p q : Posted) → same_post p q ≡ true → (new.version ≡ old.version → p ≡ q) → n < old.next_in → KnowsOrNot old new → repeats (origin_of new.version) n p q ≡ true
+repeats_still : (old new : State) (n : ℕ) (p q : Posted) → same_post p q ≡ true → (new.version ≡ old.version → p ≡ q) → n < old.next_in → KnowsOrNot old new
+    → repeats (origin_of new.version) n p q ≡ true
 unfolding KnowsOrNot
 repeats_still old new n p q posted same less (inl is) = subst (λ (x : Posted). repeats (origin_of new.version) n p x ≡ true) (same is) (repeats_itself (origin_of new.version) n p)
 repeats_still old new n p q posted same less (inr is) =
@@ -132,7 +139,8 @@ repeats_still old new n p q posted same less (inr is) =
 AnswersAlike : Agreements → State → ℕ → Posted → Option (Answer × State) → Type 0
 AnswersAlike A u n p o = (end : State) × (o ≡ Some (answer_to A n p, end)) × (recorded_posts end ≡ recorded_posts u) × (end.next_in ≡ u.next_in) × (end.outbox ≡ u.outbox)
 
-again : (A : Agreements) (u : State) (k n : ℕ) (p q : Posted) (o : Option InEntry) → option_map lasting_part o ≡ Some (n, p) → repeats (origin_of u.version) n p q ≡ true → AnswersAlike A u n p (record_given A u k q o)
+again : (A : Agreements) (u : State) (k n : ℕ) (p q : Posted) (o : Option InEntry) → option_map lasting_part o ≡ Some (n, p)
+    → repeats (origin_of u.version) n p q ≡ true → AnswersAlike A u n p (record_given A u k q o)
 unfolding AnswersAlike
 again A u k n p q None found repeat = absurd (cc)
 again A u k n p q (Some e) found repeat = (
@@ -154,15 +162,21 @@ same_document : (p q : Posted) → IsDocument p ≡ IsDocument q → p ≡ q
 same_document p q is = cc
 
 -- under one version it is read as one document
-same_under : (A : Agreements) (v w : Version) (head : Head) (body : Text) (p q : Posted) → post_reading A (known_digests v) head body ≡ IsDocument p → post_reading A (known_digests w) head body ≡ IsDocument q → w ≡ v → p ≡ q
+same_under : (A : Agreements) (v w : Version) (head : Head) (body : Text) (p q : Posted) → post_reading A (known_digests v) head body ≡ IsDocument p
+    → post_reading A (known_digests w) head body ≡ IsDocument q → w ≡ v → p ≡ q
 same_under A v w head body p q here there is = same_document p q (sym here ∙ ap (λ (x : Version). post_reading A (known_digests x) head body) (sym is) ∙ there)
 
 -- the post of a document that repeats the entry, by what it is read as
-posted_again : (A : Agreements) (later : State) (k n : ℕ) (p q : Posted) (first : Answer) (r : Reading) → r ≡ IsDocument q → answer_to A n p ≡ first → AnswersAlike A later n p (record_given A later k q (received_as later q)) → (end : State) × (post A later k r ≡ Some (first, end)) × (map lasting_part end.inbox ≡ map lasting_part later.inbox) × (end.next_in ≡ later.next_in) × (end.outbox ≡ later.outbox)
+posted_again : (A : Agreements) (later : State) (k n : ℕ) (p q : Posted) (first : Answer) (r : Reading) → r ≡ IsDocument q → answer_to A n p ≡ first
+    → AnswersAlike A later n p (record_given A later k q (received_as later q)) → (end : State) × (post A later k r ≡ Some (first, end))
+    × (map lasting_part end.inbox ≡ map lasting_part later.inbox) × (end.next_in ≡ later.next_in) × (end.outbox ≡ later.outbox)
 unfolding record_post AnswersAlike
 posted_again A later k n p q first r is answer a = (a.0, ap (post A later k) is ∙ a.1 ∙ ap (λ (x : Answer). Some (x, a.0)) answer, a.2, a.3, a.4)
 
-pub repeat_law : (A : Agreements) (old recorded later : State) (head : Head) (body : Text) (m n : ℕ) (first : Answer) (trace : Trace) → step A old (Post head body m) ≡ Some (first, recorded) → old.next_in < recorded.next_in → Run A recorded trace later → (end : State) × (step A later (Post head body n) ≡ Some (first, end)) × (map lasting_part end.inbox ≡ map lasting_part later.inbox) × (end.next_in ≡ later.next_in) × (end.outbox ≡ later.outbox)
+pub repeat_law : (A : Agreements) (old recorded later : State) (head : Head) (body : Text) (m n : ℕ) (first : Answer) (trace : Trace)
+    → step A old (Post head body m) ≡ Some (first, recorded) → old.next_in < recorded.next_in → Run A recorded trace later → (end : State)
+    × (step A later (Post head body n) ≡ Some (first, end)) × (map lasting_part end.inbox ≡ map lasting_part later.inbox) × (end.next_in ≡ later.next_in)
+    × (end.outbox ≡ later.outbox)
 unfolding record_post WasNew
 repeat_law A old recorded later head body m n first trace one grew run =
     let was = was_new A old m (post_reading A (known_digests old.version) head body) (first, recorded) one grew in

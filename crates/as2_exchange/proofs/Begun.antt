@@ -29,7 +29,9 @@ still_tried facts (Some f) h = rw (last_of-push try_in facts f) (by (option_map 
     by None (Some x) g = refl
     by None None g = absurd (false≢true g)
 
-begun_run : (A : Agreements) (k : ℕ) (d : Submission) (p : Partner) (past : List Done) (after : List Done) (old : State) (trace : Trace) (new : State) → partner_of A d.partner ≡ Some p → IsAsTold A past old → Run A old trace new → first_of (submission k) past ≡ Some (record { it = d; after = after }) → IsTried (filter_map (fact A k d) after) → IsSomeAnd (document new k) (λ e. e.begun ≡ true)
+begun_run : (A : Agreements) (k : ℕ) (d : Submission) (p : Partner) (past : List Done) (after : List Done) (old : State) (trace : Trace) (new : State)
+    → partner_of A d.partner ≡ Some p → IsAsTold A past old → Run A old trace new → first_of (submission k) past ≡ Some (record { it = d; after = after })
+    → IsTried (filter_map (fact A k d) after) → IsSomeAnd (document new k) (λ e. e.begun ≡ true)
 begun_run A k d p past after old [] new theirs keeps run found has =
     let is : document new k ≡ Some (entry_by A k d (filter_map (fact A k d) after) p) = rw run (keeps.each k ∙ rw (found, theirs) refl) in
     subst (λ (o : Option OutEntry). IsSomeAnd o (λ e. e.begun ≡ true)) (sym is) has
@@ -41,7 +43,8 @@ begun_run A k d p past after old (AnEvent e (Answered a) ∷ rest) new theirs ke
 begun_run A k d p past after old (AnEvent e (Failed fault) ∷ rest) new theirs keeps run found has = begun_run A k d p past after old rest new theirs keeps run.1 found has
 begun_run A k d p past after old (AMigration n ∷ rest) new theirs keeps run found has = begun_run A k d p past after (migrated_state old) rest new theirs (migrated_keeps A past old keeps) run.2 found has
 
-pub begun_stays_law : (A : Agreements) (v : Version) (first : ℕ) (one two : Trace) (s t : State) → Run A (empty v first) one s → Run A s two t → (k : ℕ) (d : OutEntry) → document s k ≡ Some d → d.begun ≡ true → IsSomeAnd (document t k) (λ e. e.begun ≡ true)
+pub begun_stays_law : (A : Agreements) (v : Version) (first : ℕ) (one two : Trace) (s t : State) → Run A (empty v first) one s → Run A s two t
+    → (k : ℕ) (d : OutEntry) → document s k ≡ Some d → d.begun ≡ true → IsSomeAnd (document t k) (λ e. e.begun ≡ true)
 begun_stays_law A v first one two s t run on k d is begun = by (first_of (submission k) (accepted_events v one)) refl
   where
     keeps : IsAsTold A (accepted_events v one) s

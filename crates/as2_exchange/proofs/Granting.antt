@@ -22,14 +22,16 @@ less n k h = grind (arith, nat_tests)
 abbrev granted : {E : Type 0} → E → E → Job → Bool → Bool → Bool → Answer × E
 granted e x given settled used early = if settled then (Refused AllSettled, e) else if used then (Refused TriesUsedUp, e) else if early then (Refused NotDue, e) else (AJob given, x)
 
-granted_by : {E : Type 0} (e x : E) (job given : Job) (settled used early : Bool) → (granted e x given settled used early).0 ≡ AJob job → (settled ≡ false) × (used ≡ false)
+granted_by : {E : Type 0} (e x : E) (job given : Job) (settled used early : Bool) → (granted e x given settled used early).0 ≡ AJob job → (settled ≡ false)
+    × (used ≡ false)
 granted_by e x job given true used early h = absurd (cc)
 granted_by e x job given false true early h = absurd (cc)
 granted_by e x job given false false true h = absurd (cc)
 granted_by e x job given false false false h = (refl, refl)
 
 -- and only to a partner that is agreed
-granted_to : {E : Type 0} (A : Agreements) (organization partner : Text) (e : E) (act : Partner → Answer × E) (job : Job) (P : Partner → Type 0) → ((p : Partner) → (act p).0 ≡ AJob job → P p) → (where_agreed A organization partner e act).0 ≡ AJob job → IsSomeAnd (partner_of A partner) P
+granted_to : {E : Type 0} (A : Agreements) (organization partner : Text) (e : E) (act : Partner → Answer × E) (job : Job) (P : Partner → Type 0)
+    → ((p : Partner) → (act p).0 ≡ AJob job → P p) → (where_agreed A organization partner e act).0 ≡ AJob job → IsSomeAnd (partner_of A partner) P
 granted_to {E} A organization partner e act job P rest h = by (is_organization A organization) (partner_of A partner) h
   where
     given : Bool → Option Partner → Answer × E
@@ -56,10 +58,12 @@ parted : (d : OutEntry) (o : Option Partner) → IsSomeAnd o (Unsettled d) → (
 parted d None h = absurd h
 parted d (Some p) h = (h.0, h.1)
 
-pub document_granted : (A : Agreements) (s t : State) (n m : ℕ) (job : Job) → step A s (Begin n m) ≡ Some (AJob job, t) → (d : OutEntry) × (document s n ≡ Some d) × (is_settled d ≡ false) × IsSomeAnd (partner_of A d.partner) (λ p. d.tries < p.max_tries)
+pub document_granted : (A : Agreements) (s t : State) (n m : ℕ) (job : Job) → step A s (Begin n m) ≡ Some (AJob job, t) → (d : OutEntry)
+    × (document s n ≡ Some d) × (is_settled d ≡ false) × IsSomeAnd (partner_of A d.partner) (λ p. d.tries < p.max_tries)
 document_granted A s t n m job h = by (document s n) refl (same_Some _ (AJob job, t) h)
   where
-    by : (o : Option OutEntry) → document s n ≡ o → act_on s n (begun A m) o ≡ (AJob job, t) → (d : OutEntry) × (document s n ≡ Some d) × (is_settled d ≡ false) × IsSomeAnd (partner_of A d.partner) (λ p. d.tries < p.max_tries)
+    by : (o : Option OutEntry) → document s n ≡ o → act_on s n (begun A m) o ≡ (AJob job, t) → (d : OutEntry) × (document s n ≡ Some d)
+        × (is_settled d ≡ false) × IsSomeAnd (partner_of A d.partner) (λ p. d.tries < p.max_tries)
     by None at g = absurd (let first : Refused NoSuchNumber ≡ AJob job = ap (λ (y : Answer × State). y.0) g in cc)
     by (Some d) at g =
         let is = parted d (partner_of A d.partner) (begun_granted A m d job (ap (λ (y : Answer × State). y.0) g)) in
@@ -75,7 +79,8 @@ owes_receipt Pending h = refl
 owes_receipt Unasked h = absurd (cc)
 owes_receipt Sent h = absurd (cc)
 
-receipt_begun_granted : (A : Agreements) (m : ℕ) (e : InEntry) (job : Job) → (begun_receipt A m e).0 ≡ AJob job → IsSomeAnd (partner_of A e.posted.sender) (StillOwed e)
+receipt_begun_granted : (A : Agreements) (m : ℕ) (e : InEntry) (job : Job) → (begun_receipt A m e).0 ≡ AJob job
+    → IsSomeAnd (partner_of A e.posted.sender) (StillOwed e)
 unfolding begun_receipt
 receipt_begun_granted A m e job h =
     granted_to A e.posted.receiver e.posted.sender e _ job (StillOwed e)
@@ -85,10 +90,12 @@ parted_receipt : (e : InEntry) (o : Option Partner) → IsSomeAnd o (StillOwed e
 parted_receipt e None h = absurd h
 parted_receipt e (Some p) h = (h.0, h.1)
 
-pub receipt_granted : (A : Agreements) (s t : State) (n m : ℕ) (job : Job) → step A s (BeginReceipt n m) ≡ Some (AJob job, t) → (e : InEntry) × (received_entry s n ≡ Some e) × (e.receipt_stage ≡ Pending) × IsSomeAnd (partner_of A e.posted.sender) (λ p. e.tries < p.max_tries)
+pub receipt_granted : (A : Agreements) (s t : State) (n m : ℕ) (job : Job) → step A s (BeginReceipt n m) ≡ Some (AJob job, t) → (e : InEntry)
+    × (received_entry s n ≡ Some e) × (e.receipt_stage ≡ Pending) × IsSomeAnd (partner_of A e.posted.sender) (λ p. e.tries < p.max_tries)
 receipt_granted A s t n m job h = by (received_entry s n) refl (same_Some _ (AJob job, t) h)
   where
-    by : (o : Option InEntry) → received_entry s n ≡ o → acted_in s n (begun_receipt A m) o ≡ (AJob job, t) → (e : InEntry) × (received_entry s n ≡ Some e) × (e.receipt_stage ≡ Pending) × IsSomeAnd (partner_of A e.posted.sender) (λ p. e.tries < p.max_tries)
+    by : (o : Option InEntry) → received_entry s n ≡ o → acted_in s n (begun_receipt A m) o ≡ (AJob job, t) → (e : InEntry) × (received_entry s n ≡ Some e)
+        × (e.receipt_stage ≡ Pending) × IsSomeAnd (partner_of A e.posted.sender) (λ p. e.tries < p.max_tries)
     by None at g = absurd (let first : Refused NoSuchNumber ≡ AJob job = ap (λ (y : Answer × State). y.0) g in cc)
     by (Some e) at g =
         let is = parted_receipt e (partner_of A e.posted.sender) (receipt_begun_granted A m e job (ap (λ (y : Answer × State). y.0) g)) in

@@ -49,11 +49,13 @@ done_with false true (Some (t, Some o)) = refl
 done_with false false (Some (t, Some o)) = refl
 
 -- as it is queued
-pub queued_owed : (p : Partner) (m : ℕ) (e : InEntry) → e.receipt_stage ≡ Pending → e.tries ≡ 0 → e.attempt ≡ Idle → e.due ≡ Some m → IsOwed p (found_place [] m) e
+pub queued_owed : (p : Partner) (m : ℕ) (e : InEntry) → e.receipt_stage ≡ Pending → e.tries ≡ 0 → e.attempt ≡ Idle → e.due ≡ Some m
+    → IsOwed p (found_place [] m) e
 unfolding with_past last_of first_of
 queued_owed p m e h g f k = record { state = h; count = g; try = f; wait = k }
 
-pub reposted_owed : (p : Partner) (since : FoundAt ℕ Fact) (m : ℕ) (e : InEntry) → is_async e.posted.how ≡ true → IsOwed p since e → IsOwed p (if is_delivered since.after || are_used p since.after then found_place [] m else since) (requeued_by_repeat m e)
+pub reposted_owed : (p : Partner) (since : FoundAt ℕ Fact) (m : ℕ) (e : InEntry) → is_async e.posted.how ≡ true → IsOwed p since e
+    → IsOwed p (if is_delivered since.after || are_used p since.after then found_place [] m else since) (requeued_by_repeat m e)
 reposted_owed p since m e async h = subst (λ (b : Bool). IsOwed p (if is_delivered since.after || are_used p since.after then found_place [] m else since) (if b then queued else e)) (sym same) (by (is_delivered since.after || are_used p since.after))
   where
     queued : InEntry
@@ -79,7 +81,8 @@ tried p m e last =
     then record e { tries = e.tries + 1; attempt = Last; due = None }
     else record e { tries = e.tries + 1; attempt = Running; due = Some (m + p.retry_seconds) }
 
-tried_is : (p : Partner) (m : ℕ) (e : InEntry) (b : Bool) → ((tried p m e b).receipt_stage ≡ e.receipt_stage) × ((tried p m e b).tries ≡ e.tries + 1) × ((tried p m e b).attempt ≡ (if b then Last else Running)) × ((tried p m e b).due ≡ (if b then None else Some (m + p.retry_seconds)))
+tried_is : (p : Partner) (m : ℕ) (e : InEntry) (b : Bool) → ((tried p m e b).receipt_stage ≡ e.receipt_stage) × ((tried p m e b).tries ≡ e.tries + 1)
+    × ((tried p m e b).attempt ≡ (if b then Last else Running)) × ((tried p m e b).due ≡ (if b then None else Some (m + p.retry_seconds)))
 tried_is p m e true = (refl, refl, refl, refl)
 tried_is p m e false = (refl, refl, refl, refl)
 
@@ -91,7 +94,8 @@ pending_not false x is h = refl
 abbrev pub more : FoundAt ℕ Fact → Fact → FoundAt ℕ Fact
 more since x = found_place (since.after ++ x ∷ []) since.it
 
-tried_owed : (p : Partner) (since : FoundAt ℕ Fact) (m : ℕ) (e : InEntry) → IsOwed p since e → is_pending e.receipt_stage ≡ true → IsOwed p (more since (ATry m)) (tried p m e (nat_le p.max_tries (e.tries + 1)))
+tried_owed : (p : Partner) (since : FoundAt ℕ Fact) (m : ℕ) (e : InEntry) → IsOwed p since e → is_pending e.receipt_stage ≡ true
+    → IsOwed p (more since (ATry m)) (tried p m e (nat_le p.max_tries (e.tries + 1)))
 tried_owed p since m e h pending =
     let is = tried_is p m e (nat_le p.max_tries (e.tries + 1)) in
     let none : is_delivered since.after ≡ false = pending_not (is_delivered since.after) e.receipt_stage h.state pending in
@@ -114,13 +118,15 @@ begun_if p m e job pending used early =
 abbrev pub with_try : FoundAt ℕ Fact → ℕ → Answer → FoundAt ℕ Fact
 with_try since m a = found_place (with_fact since.after (if is_job a then Some (ATry m) else None)) since.it
 
-begun_by : (p : Partner) (since : FoundAt ℕ Fact) (m : ℕ) (e : InEntry) (job : TheJob) (pending used early : Bool) → is_pending e.receipt_stage ≡ pending → IsOwed p since e → IsOwed p (with_try since m (begun_if p m e job pending used early).0) (begun_if p m e job pending used early).1
+begun_by : (p : Partner) (since : FoundAt ℕ Fact) (m : ℕ) (e : InEntry) (job : TheJob) (pending used early : Bool) → is_pending e.receipt_stage ≡ pending
+    → IsOwed p since e → IsOwed p (with_try since m (begun_if p m e job pending used early).0) (begun_if p m e job pending used early).1
 begun_by p since m e job false used early is h = h
 begun_by p since m e job true true early is h = h
 begun_by p since m e job true false true is h = h
 begun_by p since m e job true false false is h = tried_owed p since m e h is
 
-pub begun_owed : (A : Agreements) (p : Partner) (since : FoundAt ℕ Fact) (m : ℕ) (e : InEntry) → AreAgreed A e.posted.receiver e.posted.sender p → IsOwed p since e → IsOwed p (with_try since m (begun_receipt A m e).0) (begun_receipt A m e).1
+pub begun_owed : (A : Agreements) (p : Partner) (since : FoundAt ℕ Fact) (m : ℕ) (e : InEntry) → AreAgreed A e.posted.receiver e.posted.sender p
+    → IsOwed p since e → IsOwed p (with_try since m (begun_receipt A m e).0) (begun_receipt A m e).1
 unfolding begun_receipt
 begun_owed A p since m e agreed h = rw (agreed_is A e.posted.receiver e.posted.sender p e _ agreed) (begun_by p since m e (receipt_job e.posted.how (receipt_out A e.number e.posted)) (is_pending e.receipt_stage) (nat_le p.max_tries e.tries) (is_early m e.due) refl h)
 
@@ -144,7 +150,8 @@ ended_is p m queued e true false false (Some (t, None)) x got h k w = (refl, ref
 ended_is p m queued e false false true (Some (t, None)) x got h k w = (h, refl, refl, refl)
 ended_is p m queued e false false false (Some (t, None)) x got h k w = (h, refl, refl, refl)
 
-ended_owed : (p : Partner) (since : FoundAt ℕ Fact) (known : Digests) (got : TryAnswer) (m : ℕ) (e : InEntry) → IsOwed p since e → IsOwed p (more since (AnOutcome m known got)) (ended p m e e.receipt_stage e.attempt (is_delivery got)).1
+ended_owed : (p : Partner) (since : FoundAt ℕ Fact) (known : Digests) (got : TryAnswer) (m : ℕ) (e : InEntry) → IsOwed p since e
+    → IsOwed p (more since (AnOutcome m known got)) (ended p m e e.receipt_stage e.attempt (is_delivery got)).1
 ended_owed p since known got m e h =
     let is = ended_is p m since.it e (is_delivery got) (is_delivered since.after) (nat_le p.max_tries (tries since.after)) (last_tried since.after) (AnOutcome m known got) got h.state h.try h.wait in
     record {
@@ -165,16 +172,19 @@ ended_owed p since known got m e h =
     counted : tries (since.after ++ AnOutcome m known got ∷ []) ≡ tries since.after
     counted = tries-push since.after (AnOutcome m known got) ∙ add-zero (tries since.after)
 
-pub closed_owed : (A : Agreements) (p : Partner) (since : FoundAt ℕ Fact) (known : Digests) (got : TryAnswer) (m : ℕ) (e : InEntry) → AreAgreed A e.posted.receiver e.posted.sender p → IsOwed p since e → IsOwed p (more since (AnOutcome m known got)) (closed_receipt A got m e).1
+pub closed_owed : (A : Agreements) (p : Partner) (since : FoundAt ℕ Fact) (known : Digests) (got : TryAnswer) (m : ℕ) (e : InEntry)
+    → AreAgreed A e.posted.receiver e.posted.sender p → IsOwed p since e → IsOwed p (more since (AnOutcome m known got)) (closed_receipt A got m e).1
 unfolding closed_receipt
 closed_owed A p since known got m e agreed h = rw (agreed_is A e.posted.receiver e.posted.sender p e _ agreed) (ended_owed p since known got m e h)
 
 -- ---- a receipt that isn't sent later
 
-pub never_begun : (A : Agreements) (p : Partner) (m : ℕ) (e : InEntry) → AreAgreed A e.posted.receiver e.posted.sender p → is_pending e.receipt_stage ≡ false → (begun_receipt A m e).1 ≡ e
+pub never_begun : (A : Agreements) (p : Partner) (m : ℕ) (e : InEntry) → AreAgreed A e.posted.receiver e.posted.sender p → is_pending e.receipt_stage ≡ false
+    → (begun_receipt A m e).1 ≡ e
 unfolding begun_receipt
 never_begun A p m e agreed h = rw (agreed_is A e.posted.receiver e.posted.sender p e _ agreed, h) refl
 
-pub never_closed : (A : Agreements) (p : Partner) (got : TryAnswer) (m : ℕ) (e : InEntry) → AreAgreed A e.posted.receiver e.posted.sender p → is_pending e.receipt_stage ≡ false → (closed_receipt A got m e).1 ≡ e
+pub never_closed : (A : Agreements) (p : Partner) (got : TryAnswer) (m : ℕ) (e : InEntry) → AreAgreed A e.posted.receiver e.posted.sender p
+    → is_pending e.receipt_stage ≡ false → (closed_receipt A got m e).1 ≡ e
 unfolding closed_receipt
 never_closed A p got m e agreed h = rw (agreed_is A e.posted.receiver e.posted.sender p e _ agreed, h) refl

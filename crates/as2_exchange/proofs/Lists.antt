@@ -11,7 +11,8 @@ pub all_weaken : {X : Type 0} (P Q : X → Type 0) → ((x : X) → P x → Q x)
 all_weaken P Q f [] h = h
 all_weaken P Q f (x ∷ xs) h = (f x h.0, all_weaken P Q f xs h.1)
 
-pub distinct_push : {X : Type 0} (e : X → X → Bool) (xs : List X) (x : X) → IsDistinct e xs → AllByRecursion (λ y. e y x ≡ false) xs → IsDistinct e (xs ++ x ∷ [])
+pub distinct_push : {X : Type 0} (e : X → X → Bool) (xs : List X) (x : X) → IsDistinct e xs → AllByRecursion (λ y. e y x ≡ false) xs
+    → IsDistinct e (xs ++ x ∷ [])
 unfolding IsDistinct
 distinct_push e [] x h p = (p, h)
 distinct_push e (y ∷ xs) x h p = (all_push (λ z. e y z ≡ false) xs x h.0 p.0, distinct_push e xs x h.1 p.1)
@@ -34,7 +35,8 @@ pub none_found : {X Y : Type 0} (g : X → Y) (test : Y → Bool) (xs : List X) 
 none_found g test [] h = tt
 none_found g test (x ∷ xs) h = by (test (g x)) refl h (none_found g test xs)
   where
-    by : (b : Bool) → test (g x) ≡ b → cond b (Some x) (find (λ y. test (g y)) xs) ≡ None → (find (λ y. test (g y)) xs ≡ None → AllByRecursion (λ y. test y ≡ false) (map g xs)) → AllByRecursion (λ y. test y ≡ false) (map g (x ∷ xs))
+    by : (b : Bool) → test (g x) ≡ b → cond b (Some x) (find (λ y. test (g y)) xs) ≡ None
+        → (find (λ y. test (g y)) xs ≡ None → AllByRecursion (λ y. test y ≡ false) (map g xs)) → AllByRecursion (λ y. test y ≡ false) (map g (x ∷ xs))
     by true is none rest = absurd (cc)
     by false is none rest = (is, rest none)
 

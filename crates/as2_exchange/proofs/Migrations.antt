@@ -4,7 +4,8 @@ use Rattle.as2_exchange.specs.Agreement.{Agreements}
 use Rattle.as2_exchange.specs.Run.{Answered, Failed, AnEvent, AMigration, Trace, Run, migrated_state}
 use Rattle.as2_exchange.specs.State.{State, FirstVersion}
 
-pub run_then_migrated : (A : Agreements) (old s : State) (trace : Trace) → Run A old trace s → s.version ≡ FirstVersion → Run A old (trace ++ AMigration s.next_in ∷ []) (migrated_state s)
+pub run_then_migrated : (A : Agreements) (old s : State) (trace : Trace) → Run A old trace s → s.version ≡ FirstVersion
+    → Run A old (trace ++ AMigration s.next_in ∷ []) (migrated_state s)
 run_then_migrated A old s [] same first = (
   ap (λ (x : State). x.version) (sym same) ∙ first,
   ap (λ (x : State). x.next_in) same,

@@ -41,7 +41,8 @@ abbrev with_more : List ReceiptFact → Option ReceiptFact → List ReceiptFact
 with_more facts None = facts
 with_more facts (Some f) = facts ++ f ∷ []
 
-facts-push : (A : Agreements) (n : ℕ) (q : Posted) (past : List Done) (x : Done) → filter_map (receipt_fact A n q) (past ++ x ∷ []) ≡ with_more (filter_map (receipt_fact A n q) past) (receipt_fact A n q x)
+facts-push : (A : Agreements) (n : ℕ) (q : Posted) (past : List Done) (x : Done)
+    → filter_map (receipt_fact A n q) (past ++ x ∷ []) ≡ with_more (filter_map (receipt_fact A n q) past) (receipt_fact A n q x)
 facts-push A n q past x = filter_map-append (receipt_fact A n q) past (x ∷ []) ∙ by (receipt_fact A n q x)
   where
     by : (o : Option ReceiptFact) → filter_map (receipt_fact A n q) past ++ cons_option o [] ≡ with_more (filter_map (receipt_fact A n q) past) o
@@ -66,7 +67,9 @@ record EntryStands (A : Agreements) (n : ℕ) (past : List Done) (q : Posted) (e
   stands : StandsAs q.how partner (filter_map (receipt_fact A n q) past) e
 
 -- one more event, that leaves the entry so
-stands_on : (A : Agreements) (n : ℕ) (past : List Done) (x : Done) (q : Posted) (e later : InEntry) → EntryStands A n past q e → ((p : Partner) (facts : List ReceiptFact) → AreAgreed A q.receiver q.sender p → StandsAs q.how p facts e → StandsAs q.how p (with_more facts (receipt_fact A n q x)) later) → EntryStands A n (past ++ x ∷ []) q later
+stands_on : (A : Agreements) (n : ℕ) (past : List Done) (x : Done) (q : Posted) (e later : InEntry) → EntryStands A n past q e
+    → ((p : Partner) (facts : List ReceiptFact) → AreAgreed A q.receiver q.sender p → StandsAs q.how p facts e
+    → StandsAs q.how p (with_more facts (receipt_fact A n q x)) later) → EntryStands A n (past ++ x ∷ []) q later
 stands_on A n past x q e later h moves = record {
   partner = h.partner;
   agreed = h.agreed;
@@ -74,7 +77,8 @@ stands_on A n past x q e later h moves = record {
 }
 
 -- one more event that is no fact of it
-stands_still : (A : Agreements) (n : ℕ) (past : List Done) (x : Done) (q : Posted) (e : InEntry) → receipt_fact A n q x ≡ None → EntryStands A n past q e → EntryStands A n (past ++ x ∷ []) q e
+stands_still : (A : Agreements) (n : ℕ) (past : List Done) (x : Done) (q : Posted) (e : InEntry) → receipt_fact A n q x ≡ None → EntryStands A n past q e
+    → EntryStands A n (past ++ x ∷ []) q e
 stands_still A n past x q e none h = stands_on A n past x q e e h (λ p facts agreed stands. subst (λ (o : Option ReceiptFact). StandsAs q.how p (with_more facts o) e) (sym none) stands)
 
 -- ---- a repeat
@@ -82,7 +86,8 @@ stands_still A n past x q e none h = stands_on A n past x q e e h (λ p facts ag
 unqueued : (m : ℕ) (e : InEntry) → is_async e.posted.how ≡ false → requeued_by_repeat m e ≡ e
 unqueued m e h = rw h refl
 
-reposted : (how : ReceiptDelivery) (p : Partner) (facts : List ReceiptFact) (m : ℕ) (e : InEntry) → e.posted.how ≡ how → StandsAs how p facts e → StandsAs how p (facts ++ APost m ∷ []) (requeued_by_repeat m e)
+reposted : (how : ReceiptDelivery) (p : Partner) (facts : List ReceiptFact) (m : ℕ) (e : InEntry) → e.posted.how ≡ how → StandsAs how p facts e
+    → StandsAs how p (facts ++ APost m ∷ []) (requeued_by_repeat m e)
 reposted NoReceipt p facts m e is h = subst (StandsAs NoReceipt p (facts ++ APost m ∷ [])) (sym (unqueued m e (ap is_async is))) h
 reposted Sync p facts m e is h = subst (StandsAs Sync p (facts ++ APost m ∷ [])) (sym (unqueued m e (ap is_async is))) h
 reposted (Async url) p facts m e is h = (
@@ -97,14 +102,18 @@ reposted (Async url) p facts m e is h = (
 abbrev begin_fact : ℕ → Answer → Option ReceiptFact
 begin_fact m a = if is_job a then Some (OfATry (ATry m)) else None
 
-since_begun : (p : Partner) (facts : List ReceiptFact) (since : FoundAt ℕ Fact) (m : ℕ) (a : Answer) → since_queued p facts ≡ Some since → since_queued p (with_more facts (begin_fact m a)) ≡ Some (with_try since m a)
+since_begun : (p : Partner) (facts : List ReceiptFact) (since : FoundAt ℕ Fact) (m : ℕ) (a : Answer) → since_queued p facts ≡ Some since
+    → since_queued p (with_more facts (begin_fact m a)) ≡ Some (with_try since m a)
 since_begun p facts since m a is = by (is_job a)
   where
-    by : (b : Bool) → since_queued p (with_more facts (if b then Some (OfATry (ATry m)) else None)) ≡ Some (found_place (with_fact since.after (if b then Some (ATry m) else None)) since.it)
+    by : (b : Bool)
+        → since_queued p (with_more facts (if b then Some (OfATry (ATry m)) else None)) ≡ Some (found_place (with_fact since.after (if b then Some (ATry m) else None)) since.it)
     by true = since-push p facts (OfATry (ATry m)) ∙ ap (λ (o : Option (FoundAt ℕ Fact)). queued_by p o (OfATry (ATry m))) is
     by false = is
 
-try_begun : (A : Agreements) (how : ReceiptDelivery) (p : Partner) (facts : List ReceiptFact) (m : ℕ) (e : InEntry) → AreAgreed A e.posted.receiver e.posted.sender p → StandsAs how p facts e → StandsAs how p (with_more facts (begin_fact m (begun_receipt A m e).0)) (begun_receipt A m e).1
+try_begun : (A : Agreements) (how : ReceiptDelivery) (p : Partner) (facts : List ReceiptFact) (m : ℕ) (e : InEntry)
+    → AreAgreed A e.posted.receiver e.posted.sender p → StandsAs how p facts e
+    → StandsAs how p (with_more facts (begin_fact m (begun_receipt A m e).0)) (begun_receipt A m e).1
 try_begun A NoReceipt p facts m e agreed h = subst (StandsAs NoReceipt p (with_more facts (begin_fact m (begun_receipt A m e).0))) (sym (never_begun A p m e agreed (ap is_pending h.0))) h
 try_begun A Sync p facts m e agreed h = subst (StandsAs Sync p (with_more facts (begin_fact m (begun_receipt A m e).0))) (sym (never_begun A p m e agreed (ap is_pending h.0))) h
 try_begun A (Async url) p facts m e agreed h = (
@@ -115,7 +124,9 @@ try_begun A (Async url) p facts m e agreed h = (
 
 -- ---- a try ends
 
-try_closed : (A : Agreements) (how : ReceiptDelivery) (p : Partner) (facts : List ReceiptFact) (known : Digests) (got : TryAnswer) (m : ℕ) (e : InEntry) → AreAgreed A e.posted.receiver e.posted.sender p → StandsAs how p facts e → StandsAs how p (facts ++ OfATry (AnOutcome m known got) ∷ []) (closed_receipt A got m e).1
+try_closed : (A : Agreements) (how : ReceiptDelivery) (p : Partner) (facts : List ReceiptFact) (known : Digests) (got : TryAnswer) (m : ℕ) (e : InEntry)
+    → AreAgreed A e.posted.receiver e.posted.sender p → StandsAs how p facts e
+    → StandsAs how p (facts ++ OfATry (AnOutcome m known got) ∷ []) (closed_receipt A got m e).1
 try_closed A NoReceipt p facts known got m e agreed h = subst (StandsAs NoReceipt p (facts ++ OfATry (AnOutcome m known got) ∷ [])) (sym (never_closed A p got m e agreed (ap is_pending h.0))) h
 try_closed A Sync p facts known got m e agreed h = subst (StandsAs Sync p (facts ++ OfATry (AnOutcome m known got) ∷ [])) (sym (never_closed A p got m e agreed (ap is_pending h.0))) h
 try_closed A (Async url) p facts known got m e agreed h = (
@@ -141,13 +152,15 @@ if_known A true x y h g = h
 if_known A false x y h g = g
 
 -- the agreements have both names, or the post is refused
-if_agreed : (A : Agreements) (ours theirs : Bool) (rest : Reading) → (ours ≡ true → theirs ≡ true → IsKnown A rest) → IsKnown A (if not (ours && theirs) then Refuses UnknownNames else rest)
+if_agreed : (A : Agreements) (ours theirs : Bool) (rest : Reading) → (ours ≡ true → theirs ≡ true → IsKnown A rest)
+    → IsKnown A (if not (ours && theirs) then Refuses UnknownNames else rest)
 unfolding IsKnown
 if_agreed A true true rest h = h refl refl
 if_agreed A true false rest h = tt
 if_agreed A false theirs rest h = tt
 
-agreed_names : (A : Agreements) (names : Text × Text) → is_organization A names.1 ≡ true → is_some (partner_of A names.0) ≡ true → (p : Partner) × AreAgreed A names.1 names.0 p
+agreed_names : (A : Agreements) (names : Text × Text) → is_organization A names.1 ≡ true → is_some (partner_of A names.0) ≡ true → (p : Partner)
+    × AreAgreed A names.1 names.0 p
 agreed_names A names ours theirs = let known = is_some_value (partner_of A names.0) theirs in (known.0, record { ours = ours; theirs = known.1 })
 
 reading_known : (A : Agreements) (known : Digests) (head : Head) (body : Text) → IsKnown A (post_reading A known head body)
@@ -170,20 +183,24 @@ document_known A r q h is = subst (IsKnown A) is h
 received_number : (s : State) (n : ℕ) (e : InEntry) → received_entry s n ≡ Some e → e.number ≡ n
 received_number s n e h = number_is e.number n (find_passes (λ (x : InEntry). x.number == n) s.inbox e h)
 
-changed_number : (n : ℕ) (f : InEntry → InEntry) → ((e : InEntry) → lasting_part (f e) ≡ lasting_part e) → (e : InEntry) → (if e.number == n then f e else e).number ≡ e.number
+changed_number : (n : ℕ) (f : InEntry → InEntry) → ((e : InEntry) → lasting_part (f e) ≡ lasting_part e) → (e : InEntry)
+    → (if e.number == n then f e else e).number ≡ e.number
 changed_number n f kept e = by (e.number == n)
   where
     by : (b : Bool) → (if b then f e else e).number ≡ e.number
     by true = ap (λ (x : ℕ × Posted). x.0) (kept e)
     by false = refl
 
-received-changed : (s : State) (n : ℕ) (f : InEntry → InEntry) (k : ℕ) → ((e : InEntry) → lasting_part (f e) ≡ lasting_part e) → received_entry (change_received s n f) k ≡ option_map (λ (e : InEntry). if e.number == n then f e else e) (received_entry s k)
+received-changed : (s : State) (n : ℕ) (f : InEntry → InEntry) (k : ℕ) → ((e : InEntry) → lasting_part (f e) ≡ lasting_part e)
+    → received_entry (change_received s n f) k ≡ option_map (λ (e : InEntry). if e.number == n then f e else e) (received_entry s k)
 received-changed s n f k kept = find-map (λ (e : InEntry). e.number == k) (λ (e : InEntry). if e.number == n then f e else e) (λ e. ap (λ (j : ℕ). j == k) (changed_number n f kept e)) s.inbox
 
-received-changed_same : (s : State) (n : ℕ) (f : InEntry → InEntry) (e : InEntry) → ((d : InEntry) → lasting_part (f d) ≡ lasting_part d) → received_entry s n ≡ Some e → received_entry (change_received s n f) n ≡ Some (f e)
+received-changed_same : (s : State) (n : ℕ) (f : InEntry → InEntry) (e : InEntry) → ((d : InEntry) → lasting_part (f d) ≡ lasting_part d)
+    → received_entry s n ≡ Some e → received_entry (change_received s n f) n ≡ Some (f e)
 received-changed_same s n f e kept h = received-changed s n f n kept ∙ rw (h, received_number s n e h, same_number) refl
 
-received-changed_other : (s : State) (n : ℕ) (f : InEntry → InEntry) (k : ℕ) → ((d : InEntry) → lasting_part (f d) ≡ lasting_part d) → (k == n) ≡ false → received_entry (change_received s n f) k ≡ received_entry s k
+received-changed_other : (s : State) (n : ℕ) (f : InEntry → InEntry) (k : ℕ) → ((d : InEntry) → lasting_part (f d) ≡ lasting_part d) → (k == n) ≡ false
+    → received_entry (change_received s n f) k ≡ received_entry s k
 received-changed_other s n f k kept apart = received-changed s n f k kept ∙ by (received_entry s k) refl
   where
     by : (o : Option InEntry) → received_entry s k ≡ o → option_map (λ (e : InEntry). if e.number == n then f e else e) o ≡ o
@@ -201,7 +218,8 @@ found_by_key A s q d formed found = by (received_entry s d.number) refl
         ap Some (one_found (λ a b. a == b) (λ (x : InEntry). x.number) (λ (x : InEntry). x.number == d.number) (λ (x : InEntry). same_key x.posted q) s.inbox e d formed.received.numbers.distinct is found (rw num (same_number d.number)) (rw num (same_number d.number)))
 
 -- and the only one that the post repeats
-repeated_is : (A : Agreements) (s : State) (q : Posted) (d e : InEntry) (n o k : ℕ) → IsWellFormed A s → received_as s q ≡ Some d → received_entry s n ≡ Some e → repeats o k e.posted q ≡ true → e ≡ d
+repeated_is : (A : Agreements) (s : State) (q : Posted) (d e : InEntry) (n o k : ℕ) → IsWellFormed A s → received_as s q ≡ Some d
+    → received_entry s n ≡ Some e → repeats o k e.posted q ≡ true → e ≡ d
 repeated_is A s q d e n o k formed found is same =
     let its : HaveOneKey e.posted q = post_key e.posted q (both _ _ same).0 in
     let key : HaveOneKey d.posted q = key_is d.posted q (find_passes (λ (x : InEntry). same_key x.posted q) s.inbox d found) in
@@ -234,7 +252,8 @@ gone_before s s' q grows none = by (received_as s q) refl
         absurd (cc)
 
 -- an event that isn't the first post of the document
-still_unposted : (A : Agreements) (n : ℕ) (q : Posted) (p : Partner) (past : List Done) (x : Done) → ((j : ℕ) → receipt_fact A n q x ≡ Some (APost j) → ⊥) → since_queued p (filter_map (receipt_fact A n q) past) ≡ None → since_queued p (filter_map (receipt_fact A n q) (past ++ x ∷ [])) ≡ None
+still_unposted : (A : Agreements) (n : ℕ) (q : Posted) (p : Partner) (past : List Done) (x : Done) → ((j : ℕ) → receipt_fact A n q x ≡ Some (APost j) → ⊥)
+    → since_queued p (filter_map (receipt_fact A n q) past) ≡ None → since_queued p (filter_map (receipt_fact A n q) (past ++ x ∷ [])) ≡ None
 still_unposted A n q p past x never h = ap (since_queued p) (facts-push A n q past x) ∙ by (receipt_fact A n q x) never
   where
     by : (o : Option ReceiptFact) → ((j : ℕ) → o ≡ Some (APost j) → ⊥) → since_queued p (with_more (filter_map (receipt_fact A n q) past) o) ≡ None
@@ -242,11 +261,14 @@ still_unposted A n q p past x never h = ap (since_queued p) (facts-push A n q pa
     by (Some (APost j)) never = absurd (never j refl)
     by (Some (OfATry f)) never = since-push p (filter_map (receipt_fact A n q) past) (OfATry f) ∙ ap (λ (o : Option (FoundAt ℕ Fact)). queued_by p o (OfATry f)) h
 
-unposted_on : (A : Agreements) (past : List Done) (s s' : State) (x : Done) → KeepsReceipts A past s → Grows s s' → ((q : Posted) (n : ℕ) → received_as s' q ≡ None → (j : ℕ) → receipt_fact A n q x ≡ Some (APost j) → ⊥) → (q : Posted) → received_as s' q ≡ None → (n : ℕ) (p : Partner) → since_queued p (filter_map (receipt_fact A n q) (past ++ x ∷ [])) ≡ None
+unposted_on : (A : Agreements) (past : List Done) (s s' : State) (x : Done) → KeepsReceipts A past s → Grows s s'
+    → ((q : Posted) (n : ℕ) → received_as s' q ≡ None → (j : ℕ) → receipt_fact A n q x ≡ Some (APost j) → ⊥) → (q : Posted) → received_as s' q ≡ None
+    → (n : ℕ) (p : Partner) → since_queued p (filter_map (receipt_fact A n q) (past ++ x ∷ [])) ≡ None
 unposted_on A past s s' x keeps grows never q none n p = still_unposted A n q p past x (never q n none) (keeps.unposted q (gone_before s s' q grows none) n p)
 
 -- an event that leaves the inbox, and is no fact of any receipt
-quiet : (A : Agreements) (past : List Done) (s s' : State) (x : Done) → KeepsReceipts A past s → IsWellFormed A s' → Grows s s' → s'.inbox ≡ s.inbox → ((n : ℕ) (q : Posted) → receipt_fact A n q x ≡ None) → KeepsReceipts A (past ++ x ∷ []) s'
+quiet : (A : Agreements) (past : List Done) (s s' : State) (x : Done) → KeepsReceipts A past s → IsWellFormed A s' → Grows s s' → s'.inbox ≡ s.inbox
+    → ((n : ℕ) (q : Posted) → receipt_fact A n q x ≡ None) → KeepsReceipts A (past ++ x ∷ []) s'
 quiet A past s s' x keeps formed grows same none = record {
   formed = formed;
   each = λ n e is. stands_still A n past x e.posted e (none n e.posted) (keeps.each n e (ap (find (λ (d : InEntry). d.number == n)) (sym same) ∙ is));
@@ -256,7 +278,13 @@ quiet A past s s' x keeps formed grows same none = record {
 -- ---- a try of one receipt begins or ends
 
 -- the entry that the event acts on, or another one
-acted_entry : (A : Agreements) (past : List Done) (s : State) (k : ℕ) (act : InEntry → Answer × InEntry) (e : Event) (d : InEntry) → KeepsReceipts A past s → ((z : InEntry) → lasting_part (act z).1 ≡ lasting_part z) → ((n : ℕ) (q : Posted) (a : Answer) → (k == n) ≡ false → receipt_fact A n q (answered_event s.version e a) ≡ None) → ((z : InEntry) (p : Partner) (facts : List ReceiptFact) → AreAgreed A z.posted.receiver z.posted.sender p → StandsAs z.posted.how p facts z → StandsAs z.posted.how p (with_more facts (receipt_fact A k z.posted (answered_event s.version e (act z).0))) (act z).1) → received_entry s k ≡ Some d → (n : ℕ) (x : InEntry) → received_entry (change_received s k (λ z. (act z).1)) n ≡ Some x → (b : Bool) → (k == n) ≡ b → EntryStands A n (past ++ answered_event s.version e (act d).0 ∷ []) x.posted x
+acted_entry : (A : Agreements) (past : List Done) (s : State) (k : ℕ) (act : InEntry → Answer × InEntry) (e : Event) (d : InEntry) → KeepsReceipts A past s
+    → ((z : InEntry) → lasting_part (act z).1 ≡ lasting_part z)
+    → ((n : ℕ) (q : Posted) (a : Answer) → (k == n) ≡ false → receipt_fact A n q (answered_event s.version e a) ≡ None)
+    → ((z : InEntry) (p : Partner) (facts : List ReceiptFact) → AreAgreed A z.posted.receiver z.posted.sender p → StandsAs z.posted.how p facts z
+    → StandsAs z.posted.how p (with_more facts (receipt_fact A k z.posted (answered_event s.version e (act z).0))) (act z).1) → received_entry s k ≡ Some d
+    → (n : ℕ) (x : InEntry) → received_entry (change_received s k (λ z. (act z).1)) n ≡ Some x → (b : Bool) → (k == n) ≡ b
+    → EntryStands A n (past ++ answered_event s.version e (act d).0 ∷ []) x.posted x
 acted_entry A past s k act e d keeps kept silent moves found n x is false h =
     stands_still A n past (answered_event s.version e (act d).0) x.posted x (silent n x.posted (act d).0 h)
     (keeps.each n x (sym (received-changed_other s k (λ z. (act z).1) n kept (apart_turned k n k refl h)) ∙ is))
@@ -269,7 +297,14 @@ acted_entry A past s k act e d keeps kept silent moves found n x is true h =
     let of_x = subst (λ (z : InEntry). EntryStands A k (past ++ answered_event s.version e (act d).0 ∷ []) z.posted z) it of_it in
     subst (λ (j : ℕ). EntryStands A j (past ++ answered_event s.version e (act d).0 ∷ []) x.posted x) same of_x
 
-acted_receipts : (A : Agreements) (past : List Done) (s : State) (k : ℕ) (act : InEntry → Answer × InEntry) (e : Event) → KeepsReceipts A past s → ((z : InEntry) → lasting_part (act z).1 ≡ lasting_part z) → ((n : ℕ) (q : Posted) (a : Answer) → (k == n) ≡ false → receipt_fact A n q (answered_event s.version e a) ≡ None) → ((n : ℕ) (q : Posted) (a : Answer) (j : ℕ) → receipt_fact A n q (answered_event s.version e a) ≡ Some (APost j) → ⊥) → ((z : InEntry) (p : Partner) (facts : List ReceiptFact) → AreAgreed A z.posted.receiver z.posted.sender p → StandsAs z.posted.how p facts z → StandsAs z.posted.how p (with_more facts (receipt_fact A k z.posted (answered_event s.version e (act z).0))) (act z).1) → (o : Option InEntry) → received_entry s k ≡ o → IsWellFormed A (acted_in s k act o).1 → Grows s (acted_in s k act o).1 → KeepsReceipts A (past ++ answered_event s.version e (acted_in s k act o).0 ∷ []) (acted_in s k act o).1
+acted_receipts : (A : Agreements) (past : List Done) (s : State) (k : ℕ) (act : InEntry → Answer × InEntry) (e : Event) → KeepsReceipts A past s
+    → ((z : InEntry) → lasting_part (act z).1 ≡ lasting_part z)
+    → ((n : ℕ) (q : Posted) (a : Answer) → (k == n) ≡ false → receipt_fact A n q (answered_event s.version e a) ≡ None)
+    → ((n : ℕ) (q : Posted) (a : Answer) (j : ℕ) → receipt_fact A n q (answered_event s.version e a) ≡ Some (APost j) → ⊥)
+    → ((z : InEntry) (p : Partner) (facts : List ReceiptFact) → AreAgreed A z.posted.receiver z.posted.sender p → StandsAs z.posted.how p facts z
+    → StandsAs z.posted.how p (with_more facts (receipt_fact A k z.posted (answered_event s.version e (act z).0))) (act z).1) → (o : Option InEntry)
+    → received_entry s k ≡ o → IsWellFormed A (acted_in s k act o).1 → Grows s (acted_in s k act o).1
+    → KeepsReceipts A (past ++ answered_event s.version e (acted_in s k act o).0 ∷ []) (acted_in s k act o).1
 acted_receipts A past s k act e keeps kept silent never moves None none formed grows = record {
   formed = formed;
   each = λ n d is. stands_still A n past (answered_event s.version e (Refused NoSuchNumber)) d.posted d (silent n d.posted (Refused NoSuchNumber) (absent n d is (k == n) refl)) (keeps.each n d is);
@@ -289,11 +324,13 @@ no_post : (b : Bool) (f : Fact) (j : ℕ) → (if b then Some (OfATry f) else No
 no_post true f j h = absurd (cc)
 no_post false f j h = absurd (cc)
 
-begin_silent : (v : Version) (A : Agreements) (k m n : ℕ) (q : Posted) (a : Answer) → (k == n) ≡ false → receipt_fact A n q (answered_event v (BeginReceipt k m) a) ≡ None
+begin_silent : (v : Version) (A : Agreements) (k m n : ℕ) (q : Posted) (a : Answer) → (k == n) ≡ false
+    → receipt_fact A n q (answered_event v (BeginReceipt k m) a) ≡ None
 unfolding receipt_fact
 begin_silent v A k m n q a apart = rw apart refl
 
-begin_never : (v : Version) (A : Agreements) (k m n : ℕ) (q : Posted) (a : Answer) (j : ℕ) → receipt_fact A n q (answered_event v (BeginReceipt k m) a) ≡ Some (APost j) → ⊥
+begin_never : (v : Version) (A : Agreements) (k m n : ℕ) (q : Posted) (a : Answer) (j : ℕ)
+    → receipt_fact A n q (answered_event v (BeginReceipt k m) a) ≡ Some (APost j) → ⊥
 unfolding receipt_fact
 begin_never v A k m n q a j h = no_post ((k == n) && is_job a) (ATry m) j h
 
@@ -301,15 +338,18 @@ begin_fact_is : (v : Version) (A : Agreements) (k m : ℕ) (q : Posted) (a : Ans
 unfolding receipt_fact
 begin_fact_is v A k m q a = ap (λ (b : Bool). if b && is_job a then Some (OfATry (ATry m)) else None) (same_number k)
 
-outcome_silent : (v : Version) (A : Agreements) (k : ℕ) (got : TryAnswer) (m n : ℕ) (q : Posted) (a : Answer) → (k == n) ≡ false → receipt_fact A n q (answered_event v (OutcomeReceipt k got m) a) ≡ None
+outcome_silent : (v : Version) (A : Agreements) (k : ℕ) (got : TryAnswer) (m n : ℕ) (q : Posted) (a : Answer) → (k == n) ≡ false
+    → receipt_fact A n q (answered_event v (OutcomeReceipt k got m) a) ≡ None
 unfolding receipt_fact
 outcome_silent v A k got m n q a apart = rw apart refl
 
-outcome_never : (v : Version) (A : Agreements) (k : ℕ) (got : TryAnswer) (m n : ℕ) (q : Posted) (a : Answer) (j : ℕ) → receipt_fact A n q (answered_event v (OutcomeReceipt k got m) a) ≡ Some (APost j) → ⊥
+outcome_never : (v : Version) (A : Agreements) (k : ℕ) (got : TryAnswer) (m n : ℕ) (q : Posted) (a : Answer) (j : ℕ)
+    → receipt_fact A n q (answered_event v (OutcomeReceipt k got m) a) ≡ Some (APost j) → ⊥
 unfolding receipt_fact
 outcome_never v A k got m n q a j h = no_post (k == n) (AnOutcome m (known_digests v) got) j h
 
-outcome_fact_is : (v : Version) (A : Agreements) (k : ℕ) (got : TryAnswer) (m : ℕ) (q : Posted) (a : Answer) → receipt_fact A k q (answered_event v (OutcomeReceipt k got m) a) ≡ Some (OfATry (AnOutcome m (known_digests v) got))
+outcome_fact_is : (v : Version) (A : Agreements) (k : ℕ) (got : TryAnswer) (m : ℕ) (q : Posted) (a : Answer)
+    → receipt_fact A k q (answered_event v (OutcomeReceipt k got m) a) ≡ Some (OfATry (AnOutcome m (known_digests v) got))
 unfolding receipt_fact
 outcome_fact_is v A k got m q a = ap (λ (b : Bool). if b then Some (OfATry (AnOutcome m (known_digests v) got)) else None) (same_number k)
 
@@ -331,17 +371,21 @@ outcome_receipts A past s k got m keeps formed grows =
 abbrev PostsFor : Agreements → ℕ → Done → ℕ → Posted → Type 0
 PostsFor A o x m q = (n : ℕ) (p : Posted) → receipt_fact A n p x ≡ (if repeats o n p q then Some (APost m) else None)
 
-posts_for : (v : Version) (A : Agreements) (head : Head) (body : Text) (m : ℕ) (a : Answer) (q : Posted) → post_reading A (known_digests v) head body ≡ IsDocument q → PostsFor A (origin_of v) (answered_event v (Post head body m) a) m q
+posts_for : (v : Version) (A : Agreements) (head : Head) (body : Text) (m : ℕ) (a : Answer) (q : Posted)
+    → post_reading A (known_digests v) head body ≡ IsDocument q → PostsFor A (origin_of v) (answered_event v (Post head body m) a) m q
 unfolding receipt_fact
 posts_for v A head body m a q is n p = rw is refl
 
-not_posted : (A : Agreements) (o : ℕ) (x : Done) (m : ℕ) (q : Posted) (n : ℕ) (p : Posted) → PostsFor A o x m q → repeats o n p q ≡ false → receipt_fact A n p x ≡ None
+not_posted : (A : Agreements) (o : ℕ) (x : Done) (m : ℕ) (q : Posted) (n : ℕ) (p : Posted) → PostsFor A o x m q → repeats o n p q ≡ false
+    → receipt_fact A n p x ≡ None
 not_posted A o x m q n p post h = post n p ∙ rw h refl
 
-is_posted : (A : Agreements) (o : ℕ) (x : Done) (m : ℕ) (q : Posted) (n : ℕ) (p : Posted) → PostsFor A o x m q → repeats o n p q ≡ true → receipt_fact A n p x ≡ Some (APost m)
+is_posted : (A : Agreements) (o : ℕ) (x : Done) (m : ℕ) (q : Posted) (n : ℕ) (p : Posted) → PostsFor A o x m q → repeats o n p q ≡ true
+    → receipt_fact A n p x ≡ Some (APost m)
 is_posted A o x m q n p post h = post n p ∙ rw h refl
 
-post_one_key : (A : Agreements) (o : ℕ) (x : Done) (m : ℕ) (q : Posted) (n : ℕ) (p : Posted) → PostsFor A o x m q → (j : ℕ) → receipt_fact A n p x ≡ Some (APost j) → HaveOneKey p q
+post_one_key : (A : Agreements) (o : ℕ) (x : Done) (m : ℕ) (q : Posted) (n : ℕ) (p : Posted) → PostsFor A o x m q → (j : ℕ)
+    → receipt_fact A n p x ≡ Some (APost j) → HaveOneKey p q
 post_one_key A o x m q n p post j h = by (repeats o n p q) refl (sym (post n p) ∙ h)
   where
     by : (b : Bool) → repeats o n p q ≡ b → (if b then Some (APost m) else None) ≡ Some (APost j) → HaveOneKey p q
@@ -349,7 +393,8 @@ post_one_key A o x m q n p post j h = by (repeats o n p q) refl (sym (post n p) 
     by false is g = absurd (cc)
 
 -- a receipt as it is first owed
-first_stands : (how : ReceiptDelivery) (p : Partner) (facts : List ReceiptFact) (n m : ℕ) (q : Posted) → q.how ≡ how → since_queued p facts ≡ Some (found_place [] m) → StandsAs how p facts (first_entry n m q)
+first_stands : (how : ReceiptDelivery) (p : Partner) (facts : List ReceiptFact) (n m : ℕ) (q : Posted) → q.how ≡ how
+    → since_queued p facts ≡ Some (found_place [] m) → StandsAs how p facts (first_entry n m q)
 first_stands NoReceipt p facts n m q is since = (rw is refl, refl, refl, rw is refl)
 first_stands Sync p facts n m q is since = (rw is refl, refl, refl, rw is refl)
 first_stands (Async url) p facts n m q is since = (found_place [] m, since, queued_owed p m (first_entry n m q) (rw is refl) refl refl (rw is refl))
@@ -357,14 +402,17 @@ first_stands (Async url) p facts n m q is since = (found_place [] m, since, queu
 abbrev with_first : State → ℕ → Posted → State
 with_first s m q = record s { inbox = s.inbox ++ first_entry s.next_in m q ∷ []; next_in = s.next_in + 1 }
 
-fresh_receipts : (A : Agreements) (past : List Done) (s : State) (m : ℕ) (q : Posted) (x : Done) → KeepsReceipts A past s → PostsFor A (origin_of s.version) x m q → ((p : Partner) × AreAgreed A q.receiver q.sender p) → received_as s q ≡ None → IsWellFormed A (with_first s m q) → Grows s (with_first s m q) → KeepsReceipts A (past ++ x ∷ []) (with_first s m q)
+fresh_receipts : (A : Agreements) (past : List Done) (s : State) (m : ℕ) (q : Posted) (x : Done) → KeepsReceipts A past s
+    → PostsFor A (origin_of s.version) x m q → ((p : Partner) × AreAgreed A q.receiver q.sender p) → received_as s q ≡ None
+    → IsWellFormed A (with_first s m q) → Grows s (with_first s m q) → KeepsReceipts A (past ++ x ∷ []) (with_first s m q)
 fresh_receipts A past s m q x keeps post known none formed grows = record {
   formed = formed;
   each = λ n e is. by n e (received_entry s n) refl (sym (find-append (λ (d : InEntry). d.number == n) s.inbox (first_entry s.next_in m q ∷ [])) ∙ is);
   unposted = unposted_on A past s (with_first s m q) x keeps grows never;
 }
   where
-    other : (n : ℕ) (d : InEntry) → received_entry s n ≡ Some d → (b : Bool) → repeats (origin_of s.version) n d.posted q ≡ b → repeats (origin_of s.version) n d.posted q ≡ false
+    other : (n : ℕ) (d : InEntry) → received_entry s n ≡ Some d → (b : Bool) → repeats (origin_of s.version) n d.posted q ≡ b
+        → repeats (origin_of s.version) n d.posted q ≡ false
     other n d is false h = h
     other n d is true h =
         let key : same_key d.posted q ≡ false = find_none (λ (e : InEntry). same_key e.posted q) (λ (e : InEntry). e.number == n) s.inbox d none is in
@@ -385,7 +433,8 @@ fresh_receipts A past s m q x keeps post known none formed grows = record {
     new n e true h = subst (λ (z : InEntry). EntryStands A n (past ++ x ∷ []) z.posted z) (same_Some _ _ h) (its_first n)
     new n e false h = absurd (cc)
 
-    by : (n : ℕ) (e : InEntry) (o : Option InEntry) → received_entry s n ≡ o → option_or o (find (λ (d : InEntry). d.number == n) (first_entry s.next_in m q ∷ [])) ≡ Some e → EntryStands A n (past ++ x ∷ []) e.posted e
+    by : (n : ℕ) (e : InEntry) (o : Option InEntry) → received_entry s n ≡ o
+        → option_or o (find (λ (d : InEntry). d.number == n) (first_entry s.next_in m q ∷ [])) ≡ Some e → EntryStands A n (past ++ x ∷ []) e.posted e
     by n e (Some d) at h =
         subst (λ (z : InEntry). EntryStands A n (past ++ x ∷ []) z.posted z) (same_Some _ _ h)
         (stands_still A n past x d.posted d (not_posted A (origin_of s.version) x m q n d.posted post (other n d at (repeats (origin_of s.version) n d.posted q) refl)) (keeps.each n d at))
@@ -399,18 +448,23 @@ fresh_receipts A past s m q x keeps post known none formed grows = record {
         absurd (cc)
 
 -- a document that was posted before
-never_new : (A : Agreements) (s s' : State) (x : Done) (m : ℕ) (q : Posted) (d : InEntry) → PostsFor A (origin_of s.version) x m q → Grows s s' → received_as s q ≡ Some d → (p : Posted) (n : ℕ) → received_as s' p ≡ None → (j : ℕ) → receipt_fact A n p x ≡ Some (APost j) → ⊥
+never_new : (A : Agreements) (s s' : State) (x : Done) (m : ℕ) (q : Posted) (d : InEntry) → PostsFor A (origin_of s.version) x m q → Grows s s'
+    → received_as s q ≡ Some d → (p : Posted) (n : ℕ) → received_as s' p ≡ None → (j : ℕ) → receipt_fact A n p x ≡ Some (APost j) → ⊥
 never_new A s s' x m q d post grows found p n gone j h =
     let it = post_one_key A (origin_of s.version) x m q n p post j h in
     let two : None ≡ Some d = sym (gone_before s s' p grows gone) ∙ received_one s p q it ∙ found in
     absurd (cc)
 
 -- no other entry is repeated
-others_not : (A : Agreements) (s : State) (q : Posted) (d e : InEntry) (n : ℕ) → IsWellFormed A s → received_as s q ≡ Some d → received_entry s n ≡ Some e → (e ≡ d → ⊥) → (b : Bool) → repeats (origin_of s.version) n e.posted q ≡ b → repeats (origin_of s.version) n e.posted q ≡ false
+others_not : (A : Agreements) (s : State) (q : Posted) (d e : InEntry) (n : ℕ) → IsWellFormed A s → received_as s q ≡ Some d → received_entry s n ≡ Some e
+    → (e ≡ d → ⊥) → (b : Bool) → repeats (origin_of s.version) n e.posted q ≡ b → repeats (origin_of s.version) n e.posted q ≡ false
 others_not A s q d e n formed found is other false h = h
 others_not A s q d e n formed found is other true h = absurd (other (repeated_is A s q d e n (origin_of s.version) n formed found is h))
 
-repeated_entry : (A : Agreements) (past : List Done) (s : State) (m : ℕ) (q : Posted) (x : Done) (d : InEntry) → KeepsReceipts A past s → PostsFor A (origin_of s.version) x m q → received_as s q ≡ Some d → repeats (origin_of s.version) d.number d.posted q ≡ true → (n : ℕ) (e : InEntry) → received_entry (change_received s d.number (requeued_by_repeat m)) n ≡ Some e → (b : Bool) → (d.number == n) ≡ b → EntryStands A n (past ++ x ∷ []) e.posted e
+repeated_entry : (A : Agreements) (past : List Done) (s : State) (m : ℕ) (q : Posted) (x : Done) (d : InEntry) → KeepsReceipts A past s
+    → PostsFor A (origin_of s.version) x m q → received_as s q ≡ Some d → repeats (origin_of s.version) d.number d.posted q ≡ true → (n : ℕ) (e : InEntry)
+    → received_entry (change_received s d.number (requeued_by_repeat m)) n ≡ Some e → (b : Bool) → (d.number == n) ≡ b
+    → EntryStands A n (past ++ x ∷ []) e.posted e
 repeated_entry A past s m q x d keeps post found same n e is false h =
     let at : received_entry s n ≡ Some e = sym (received-changed_other s d.number (requeued_by_repeat m) n (queued_lasting m) (apart_turned d.number n d.number refl h)) ∙ is in
     let num : e.number ≡ n = received_number s n e at in
@@ -427,28 +481,37 @@ repeated_entry A past s m q x d keeps post found same n e is true h =
     let of_e = subst (λ (z : InEntry). EntryStands A d.number (past ++ x ∷ []) z.posted z) it of_it in
     subst (λ (j : ℕ). EntryStands A j (past ++ x ∷ []) e.posted e) num of_e
 
-repeated_receipts : (A : Agreements) (past : List Done) (s : State) (m : ℕ) (q : Posted) (x : Done) (d : InEntry) → KeepsReceipts A past s → PostsFor A (origin_of s.version) x m q → received_as s q ≡ Some d → repeats (origin_of s.version) d.number d.posted q ≡ true → IsWellFormed A (change_received s d.number (requeued_by_repeat m)) → Grows s (change_received s d.number (requeued_by_repeat m)) → KeepsReceipts A (past ++ x ∷ []) (change_received s d.number (requeued_by_repeat m))
+repeated_receipts : (A : Agreements) (past : List Done) (s : State) (m : ℕ) (q : Posted) (x : Done) (d : InEntry) → KeepsReceipts A past s
+    → PostsFor A (origin_of s.version) x m q → received_as s q ≡ Some d → repeats (origin_of s.version) d.number d.posted q ≡ true
+    → IsWellFormed A (change_received s d.number (requeued_by_repeat m)) → Grows s (change_received s d.number (requeued_by_repeat m))
+    → KeepsReceipts A (past ++ x ∷ []) (change_received s d.number (requeued_by_repeat m))
 repeated_receipts A past s m q x d keeps post found same formed grows = record {
   formed = formed;
   each = λ n e is. repeated_entry A past s m q x d keeps post found same n e is (d.number == n) refl;
   unposted = unposted_on A past s (change_received s d.number (requeued_by_repeat m)) x keeps grows (never_new A s (change_received s d.number (requeued_by_repeat m)) x m q d post grows found);
 }
 
-clash_not : (A : Agreements) (s : State) (q : Posted) (d e : InEntry) (n : ℕ) → IsWellFormed A s → received_as s q ≡ Some d → repeats (origin_of s.version) d.number d.posted q ≡ false → received_entry s n ≡ Some e → (b : Bool) → repeats (origin_of s.version) n e.posted q ≡ b → repeats (origin_of s.version) n e.posted q ≡ false
+clash_not : (A : Agreements) (s : State) (q : Posted) (d e : InEntry) (n : ℕ) → IsWellFormed A s → received_as s q ≡ Some d
+    → repeats (origin_of s.version) d.number d.posted q ≡ false → received_entry s n ≡ Some e → (b : Bool) → repeats (origin_of s.version) n e.posted q ≡ b
+    → repeats (origin_of s.version) n e.posted q ≡ false
 clash_not A s q d e n formed found other is false h = h
 clash_not A s q d e n formed found other is true h =
     let it : e ≡ d = repeated_is A s q d e n (origin_of s.version) n formed found is h in
     let num : e.number ≡ n = received_number s n e is in
     absurd (false≢true (sym other ∙ ap (λ (z : InEntry). repeats (origin_of s.version) z.number z.posted q) (sym it) ∙ ap (λ (j : ℕ). repeats (origin_of s.version) j e.posted q) num ∙ h))
 
-clash_receipts : (A : Agreements) (past : List Done) (s : State) (m : ℕ) (q : Posted) (x : Done) (d : InEntry) → KeepsReceipts A past s → PostsFor A (origin_of s.version) x m q → received_as s q ≡ Some d → repeats (origin_of s.version) d.number d.posted q ≡ false → Grows s s → KeepsReceipts A (past ++ x ∷ []) s
+clash_receipts : (A : Agreements) (past : List Done) (s : State) (m : ℕ) (q : Posted) (x : Done) (d : InEntry) → KeepsReceipts A past s
+    → PostsFor A (origin_of s.version) x m q → received_as s q ≡ Some d → repeats (origin_of s.version) d.number d.posted q ≡ false → Grows s s
+    → KeepsReceipts A (past ++ x ∷ []) s
 clash_receipts A past s m q x d keeps post found other grows = record {
   formed = keeps.formed;
   each = λ n e is. stands_still A n past x e.posted e (not_posted A (origin_of s.version) x m q n e.posted post (clash_not A s q d e n keeps.formed found other is (repeats (origin_of s.version) n e.posted q) refl)) (keeps.each n e is);
   unposted = unposted_on A past s s x keeps grows (never_new A s s x m q d post grows found);
 }
 
-left_receipts : (A : Agreements) (past : List Done) (s : State) (m : ℕ) (q : Posted) (x : Done) (y : Answer × State) → KeepsReceipts A past s → PostsFor A (origin_of s.version) x m q → ((p : Partner) × AreAgreed A q.receiver q.sender p) → RecordedOrSame A s m q (received_as s q) y → IsWellFormed A y.1 → Grows s y.1 → KeepsReceipts A (past ++ x ∷ []) y.1
+left_receipts : (A : Agreements) (past : List Done) (s : State) (m : ℕ) (q : Posted) (x : Done) (y : Answer × State) → KeepsReceipts A past s
+    → PostsFor A (origin_of s.version) x m q → ((p : Partner) × AreAgreed A q.receiver q.sender p) → RecordedOrSame A s m q (received_as s q) y
+    → IsWellFormed A y.1 → Grows s y.1 → KeepsReceipts A (past ++ x ∷ []) y.1
 left_receipts A past s m q x y keeps post known (fresh none small is) formed grows =
     let at : y.1 ≡ with_first s m q = ap (λ (z : Answer × State). z.1) is in
     subst (KeepsReceipts A (past ++ x ∷ [])) (sym at) (fresh_receipts A past s m q x keeps post known none (subst (IsWellFormed A) at formed) (subst (Grows s) at grows))
@@ -460,25 +523,31 @@ left_receipts A past s m q x y keeps post known (clash d there other is) formed 
 
 -- ---- a step and a run
 
-refused_quiet : (v : Version) (A : Agreements) (head : Head) (body : Text) (m : ℕ) (a : Answer) (line : Line) → post_reading A (known_digests v) head body ≡ Refuses line → (n : ℕ) (q : Posted) → receipt_fact A n q (answered_event v (Post head body m) a) ≡ None
+refused_quiet : (v : Version) (A : Agreements) (head : Head) (body : Text) (m : ℕ) (a : Answer) (line : Line)
+    → post_reading A (known_digests v) head body ≡ Refuses line → (n : ℕ) (q : Posted) → receipt_fact A n q (answered_event v (Post head body m) a) ≡ None
 unfolding receipt_fact
 refused_quiet v A head body m a line is n q = rw is refl
 
-receipt_quiet : (v : Version) (A : Agreements) (head : Head) (body : Text) (m : ℕ) (a : Answer) (r : ReceivedReceipt) → post_reading A (known_digests v) head body ≡ IsReceipt r → (n : ℕ) (q : Posted) → receipt_fact A n q (answered_event v (Post head body m) a) ≡ None
+receipt_quiet : (v : Version) (A : Agreements) (head : Head) (body : Text) (m : ℕ) (a : Answer) (r : ReceivedReceipt)
+    → post_reading A (known_digests v) head body ≡ IsReceipt r → (n : ℕ) (q : Posted) → receipt_fact A n q (answered_event v (Post head body m) a) ≡ None
 unfolding receipt_fact
 receipt_quiet v A head body m a r is n q = rw is refl
 
-other_quiet : (v : Version) (A : Agreements) (e : Event) (a : Answer) (n : ℕ) (q : Posted) → receipt_fact_of A n q v a e ≡ None → receipt_fact A n q (answered_event v e a) ≡ None
+other_quiet : (v : Version) (A : Agreements) (e : Event) (a : Answer) (n : ℕ) (q : Posted) → receipt_fact_of A n q v a e ≡ None
+    → receipt_fact A n q (answered_event v e a) ≡ None
 unfolding receipt_fact
 other_quiet v A e a n q h = h
 
-post_receipts : (A : Agreements) (past : List Done) (s : State) (head : Head) (body : Text) (m : ℕ) (r : Reading) (y : Answer × State) → post_reading A (known_digests s.version) head body ≡ r → KeepsReceipts A past s → post A s m r ≡ Some y → IsWellFormed A y.1 → Grows s y.1 → KeepsReceipts A (past ++ answered_event s.version (Post head body m) y.0 ∷ []) y.1
+post_receipts : (A : Agreements) (past : List Done) (s : State) (head : Head) (body : Text) (m : ℕ) (r : Reading) (y : Answer × State)
+    → post_reading A (known_digests s.version) head body ≡ r → KeepsReceipts A past s → post A s m r ≡ Some y → IsWellFormed A y.1 → Grows s y.1
+    → KeepsReceipts A (past ++ answered_event s.version (Post head body m) y.0 ∷ []) y.1
 unfolding record_post
 post_receipts A past s head body m (Refuses line) y is keeps h formed grows = quiet A past s y.1 (answered_event s.version (Post head body m) y.0) keeps formed grows (ap (λ (z : Answer × State). z.1.inbox) (sym (same_Some _ y h))) (refused_quiet s.version A head body m y.0 line is)
 post_receipts A past s head body m (IsReceipt r) y is keeps h formed grows = quiet A past s y.1 (answered_event s.version (Post head body m) y.0) keeps formed grows (ap (λ (z : Answer × State). z.1.inbox) (sym (same_Some _ y h)) ∙ (settle_inbox s m r).0) (receipt_quiet s.version A head body m y.0 r is)
 post_receipts A past s head body m (IsDocument q) y is keeps h formed grows = left_receipts A past s m q (answered_event s.version (Post head body m) y.0) y keeps (posts_for s.version A head body m y.0 q is) (document_known A (post_reading A (known_digests s.version) head body) q (reading_known A (known_digests s.version) head body) is) (left_is A s m q (received_as s q) y h) formed grows
 
-step_receipts : (A : Agreements) (past : List Done) (s : State) (e : Event) (y : Answer × State) → KeepsReceipts A past s → step A s e ≡ Some y → IsWellFormed A y.1 → Grows s y.1 → KeepsReceipts A (past ++ answered_event s.version e y.0 ∷ []) y.1
+step_receipts : (A : Agreements) (past : List Done) (s : State) (e : Event) (y : Answer × State) → KeepsReceipts A past s → step A s e ≡ Some y
+    → IsWellFormed A y.1 → Grows s y.1 → KeepsReceipts A (past ++ answered_event s.version e y.0 ∷ []) y.1
 step_receipts A past s (Post head body m) y keeps h formed grows = post_receipts A past s head body m (post_reading A (known_digests s.version) head body) y refl keeps h formed grows
 step_receipts A past s (Submit organization partner content m) y keeps h formed grows = quiet A past s y.1 _ keeps formed grows (submit_inbox A s organization partner content m y h) (λ n q. other_quiet s.version A (Submit organization partner content m) y.0 n q refl)
 step_receipts A past s (Begin k m) y keeps h formed grows = quiet A past s y.1 _ keeps formed grows (ap (λ (z : Answer × State). z.1.inbox) (sym (same_Some _ y h)) ∙ acted_inbox s k (begun_document A m) (document s k)) (λ n q. other_quiet s.version A (Begin k m) y.0 n q refl)
@@ -502,7 +571,8 @@ nothing_received A v first h = record { formed = empty_formed A v first h; each 
 migrated_receipts : (A : Agreements) (past : List Done) (s : State) → KeepsReceipts A past s → KeepsReceipts A past (migrated_state s)
 migrated_receipts A past s keeps = record { formed = migrated_formed A s keeps.formed; each = keeps.each; unposted = keeps.unposted }
 
-run_receipts : (A : Agreements) (past : List Done) (old : State) (trace : Trace) (new : State) → KeepsReceipts A past old → Run A old trace new → KeepsReceipts A (past ++ accepted_events old.version trace) new
+run_receipts : (A : Agreements) (past : List Done) (old : State) (trace : Trace) (new : State) → KeepsReceipts A past old → Run A old trace new
+    → KeepsReceipts A (past ++ accepted_events old.version trace) new
 run_receipts A past old [] new keeps run = rw (run, append-nil past) keeps
 run_receipts A past old (AnEvent e (Answered a) ∷ rest) new keeps run =
     subst (λ (d : List Done). KeepsReceipts A d new) (append_assoc past (answered_event old.version e a ∷ []) (accepted_events old.version rest))
@@ -515,12 +585,14 @@ run_receipts A past old (AMigration n ∷ rest) new keeps run =
 
 -- ---- the law
 
-stands_told : (how : ReceiptDelivery) (p : Partner) (facts : List ReceiptFact) (e : InEntry) → StandsAs how p facts e → history_by_how how p (since_queued p facts) ≡ Some (receipt_told e)
+stands_told : (how : ReceiptDelivery) (p : Partner) (facts : List ReceiptFact) (e : InEntry) → StandsAs how p facts e
+    → history_by_how how p (since_queued p facts) ≡ Some (receipt_told e)
 stands_told NoReceipt p facts e h = λ i. Some (record { receipt_stage = sym h.0 i; tries = sym h.1 i; attempt = sym h.2 i; due = sym h.3 i })
 stands_told Sync p facts e h = λ i. Some (record { receipt_stage = sym h.0 i; tries = sym h.1 i; attempt = sym h.2 i; due = sym h.3 i })
 stands_told (Async url) p facts e h = ap (option_map (sent_later p)) h.1 ∙ (λ i. Some (record { receipt_stage = sym h.2.state i; tries = sym h.2.count i; attempt = sym h.2.try i; due = sym h.2.wait i }))
 
-pub receipts_law : (A : Agreements) (v : Version) (first : ℕ) (trace : Trace) (s : State) → IsCounter first → Run A (empty v first) trace s → (n : ℕ) (e : InEntry) → received_entry s n ≡ Some e → receipt_history A (accepted_events v trace) n e.posted ≡ Some (receipt_told e)
+pub receipts_law : (A : Agreements) (v : Version) (first : ℕ) (trace : Trace) (s : State) → IsCounter first → Run A (empty v first) trace s
+    → (n : ℕ) (e : InEntry) → received_entry s n ≡ Some e → receipt_history A (accepted_events v trace) n e.posted ≡ Some (receipt_told e)
 receipts_law A v first trace s h run n e is =
     let stands = (run_receipts A [] (empty v first) trace s (nothing_received A v first h) run).each n e is in
     ap (λ (o : Option Partner). option_and_then (λ (p : Partner). history_by_how e.posted.how p (since_queued p (filter_map (receipt_fact A n e.posted) (accepted_events v trace)))) o) stands.agreed.theirs

@@ -23,7 +23,8 @@ use Rattle.as2_exchange.proofs.Decisions.{number_is, apart_turned}
 
 -- ---- lists
 
-pub untouched : {X : Type 0} (number : X → ℕ) (f : X → X) (n : ℕ) (xs : List X) → AllByRecursion (λ k. (n == k) ≡ false) (map number xs) → map (λ x. if number x == n then f x else x) xs ≡ xs
+pub untouched : {X : Type 0} (number : X → ℕ) (f : X → X) (n : ℕ) (xs : List X) → AllByRecursion (λ k. (n == k) ≡ false) (map number xs)
+    → map (λ x. if number x == n then f x else x) xs ≡ xs
 untouched number f n [] h = refl
 untouched number f n (x ∷ xs) h = λ i. kept i ∷ untouched number f n xs h.1 i
   where
@@ -34,7 +35,10 @@ untouched number f n (x ∷ xs) h = λ i. kept i ∷ untouched number f n xs h.1
     kept : (if number x == n then f x else x) ≡ x
     kept = by (number x == n) (apart_turned n (number x) n refl h.0)
 
-left_step : {X : Type 0} (number : X → ℕ) (f : X → X) (n : ℕ) (d x : X) (xs : List X) (b : Bool) → (number x == n) ≡ b → AllByRecursion (λ k. (number x == k) ≡ false) (map number xs) → (find (λ y. number y == n) xs ≡ Some d → f d ≡ d → map (λ y. if number y == n then f y else y) xs ≡ xs) → cond b (Some x) (find (λ y. number y == n) xs) ≡ Some d → f d ≡ d → ((if b then f x else x) ∷ map (λ y. if number y == n then f y else y) xs) ≡ x ∷ xs
+left_step : {X : Type 0} (number : X → ℕ) (f : X → X) (n : ℕ) (d x : X) (xs : List X) (b : Bool) → (number x == n) ≡ b
+    → AllByRecursion (λ k. (number x == k) ≡ false) (map number xs)
+    → (find (λ y. number y == n) xs ≡ Some d → f d ≡ d → map (λ y. if number y == n then f y else y) xs ≡ xs)
+    → cond b (Some x) (find (λ y. number y == n) xs) ≡ Some d → f d ≡ d → ((if b then f x else x) ∷ map (λ y. if number y == n then f y else y) xs) ≡ x ∷ xs
 left_step number f n d x xs true is apart rest found same =
     let this : x ≡ d = cc in
     let fixed : f x ≡ x = subst (λ z. f z ≡ z) (sym this) same in
@@ -43,7 +47,8 @@ left_step number f n d x xs true is apart rest found same =
 left_step number f n d x xs false is apart rest found same = ap (λ ys. x ∷ ys) (rest found same)
 
 -- a change that leaves the only element of this number
-pub left_as_is : {X : Type 0} (number : X → ℕ) (f : X → X) (n : ℕ) (d : X) (xs : List X) → IsDistinct (λ a b. a == b) (map number xs) → find (λ x. number x == n) xs ≡ Some d → f d ≡ d → map (λ x. if number x == n then f x else x) xs ≡ xs
+pub left_as_is : {X : Type 0} (number : X → ℕ) (f : X → X) (n : ℕ) (d : X) (xs : List X) → IsDistinct (λ a b. a == b) (map number xs)
+    → find (λ x. number x == n) xs ≡ Some d → f d ≡ d → map (λ x. if number x == n then f x else x) xs ≡ xs
 unfolding IsDistinct
 left_as_is number f n d [] apart found same = refl
 left_as_is number f n d (x ∷ xs) apart found same = left_step number f n d x xs (number x == n) refl apart.0 (left_as_is number f n d xs apart.1) found same
@@ -53,7 +58,8 @@ left_as_is number f n d (x ∷ xs) apart found same = left_step number f n d x x
 AnswersOnly : {E : Type 0} → E → Answer × E → Type 0
 AnswersOnly e y = is_refusal y.0 ≡ true → y.1 ≡ e
 
-agreed_leaves : {E : Type 0} (A : Agreements) (organization partner : Text) (e : E) (act : Partner → Answer × E) → ((p : Partner) → AnswersOnly e (act p)) → AnswersOnly e (where_agreed A organization partner e act)
+agreed_leaves : {E : Type 0} (A : Agreements) (organization partner : Text) (e : E) (act : Partner → Answer × E) → ((p : Partner) → AnswersOnly e (act p))
+    → AnswersOnly e (where_agreed A organization partner e act)
 unfolding AnswersOnly
 agreed_leaves {E} A organization partner e act rest = by (is_organization A organization) (partner_of A partner)
   where
@@ -128,22 +134,26 @@ receipt_closed_leaves A got m e = agreed_leaves A e.posted.receiver e.posted.sen
 
 -- ---- a step
 
-acted_leaves : (A : Agreements) (s : State) (n : ℕ) (act : OutEntry → Answer × OutEntry) (o : Option OutEntry) → document s n ≡ o → ((d : OutEntry) → AnswersOnly d (act d)) → HasDistinctNumbers s → AnswersOnly s (act_on s n act o)
+acted_leaves : (A : Agreements) (s : State) (n : ℕ) (act : OutEntry → Answer × OutEntry) (o : Option OutEntry) → document s n ≡ o
+    → ((d : OutEntry) → AnswersOnly d (act d)) → HasDistinctNumbers s → AnswersOnly s (act_on s n act o)
 unfolding AnswersOnly
 acted_leaves A s n act None found leaves apart h = refl
 acted_leaves A s n act (Some d) found leaves apart h = ap (λ (ds : List OutEntry). record s { outbox = ds }) (left_as_is (λ (x : OutEntry). x.number) (λ (x : OutEntry). (act x).1) n d s.outbox apart.sent found (leaves d h))
 
-acted_in_leaves : (A : Agreements) (s : State) (n : ℕ) (act : InEntry → Answer × InEntry) (o : Option InEntry) → received_entry s n ≡ o → ((e : InEntry) → AnswersOnly e (act e)) → HasDistinctNumbers s → AnswersOnly s (acted_in s n act o)
+acted_in_leaves : (A : Agreements) (s : State) (n : ℕ) (act : InEntry → Answer × InEntry) (o : Option InEntry) → received_entry s n ≡ o
+    → ((e : InEntry) → AnswersOnly e (act e)) → HasDistinctNumbers s → AnswersOnly s (acted_in s n act o)
 unfolding AnswersOnly
 acted_in_leaves A s n act None found leaves apart h = refl
 acted_in_leaves A s n act (Some e) found leaves apart h = ap (λ (es : List InEntry). record s { inbox = es }) (left_as_is (λ (x : InEntry). x.number) (λ (x : InEntry). (act x).1) n e s.inbox apart.received found (leaves e h))
 
-submit_leaves : (A : Agreements) (s : State) (organization partner content : Text) (m : ℕ) (y : Answer × State) → submit A s organization partner content m ≡ Some y → AnswersOnly s y
+submit_leaves : (A : Agreements) (s : State) (organization partner content : Text) (m : ℕ) (y : Answer × State)
+    → submit A s organization partner content m ≡ Some y → AnswersOnly s y
 unfolding submit AnswersOnly
 submit_leaves A s organization partner content m y h =
     by (not (is_organization A organization)) (not (is_some (partner_of A partner))) (nat_lt 1048576 (length content)) (nat_le end_of_numbers s.next_out) h
   where
-    by : (b1 b2 b3 b4 : Bool) → (if b1 then Some (Refused UnknownOrganization, s) else if b2 then Some (Refused UnknownPartner, s) else if b3 then Some (Refused TooLarge, s) else if b4 then None else Some (Submitted s.next_out, record s { outbox = s.outbox ++ new_document A s.next_out organization partner content m ∷ []; next_out = s.next_out + 1 })) ≡ Some y → is_refusal y.0 ≡ true → y.1 ≡ s
+    by : (b1 b2 b3 b4 : Bool)
+        → (if b1 then Some (Refused UnknownOrganization, s) else if b2 then Some (Refused UnknownPartner, s) else if b3 then Some (Refused TooLarge, s) else if b4 then None else Some (Submitted s.next_out, record s { outbox = s.outbox ++ new_document A s.next_out organization partner content m ∷ []; next_out = s.next_out + 1 })) ≡ Some y → is_refusal y.0 ≡ true → y.1 ≡ s
     by true b2 b3 b4 g r = ap (λ (z : Answer × State). z.1) (sym (same_Some _ y g))
     by false true b3 b4 g r = ap (λ (z : Answer × State). z.1) (sym (same_Some _ y g))
     by false false true b4 g r = ap (λ (z : Answer × State). z.1) (sym (same_Some _ y g))
@@ -161,15 +171,18 @@ answered_by A n p SyncReceipt is = rw is refl
 answered_by A n p (AsyncReceipt url) is = rw is refl
 answered_by A n p NoneAsked is = rw is (with_line (is_processed p.outcome) p.outcome)
 
-recorded_acts : (A : Agreements) (s : State) (m : ℕ) (p : Posted) (o : Option InEntry) (y : Answer × State) → record_given A s m p o ≡ Some y → is_refusal y.0 ≡ false
+recorded_acts : (A : Agreements) (s : State) (m : ℕ) (p : Posted) (o : Option InEntry) (y : Answer × State) → record_given A s m p o ≡ Some y
+    → is_refusal y.0 ≡ false
 recorded_acts A s m p (Some e) y h = by (repeats (origin_of s.version) e.number e.posted p) h
   where
-    by : (b : Bool) → (if b then Some (answer_to A e.number e.posted, change_received s e.number (requeued_by_repeat m)) else Some (http 409 (Words IdUsedBefore), s)) ≡ Some y → is_refusal y.0 ≡ false
+    by : (b : Bool)
+        → (if b then Some (answer_to A e.number e.posted, change_received s e.number (requeued_by_repeat m)) else Some (http 409 (Words IdUsedBefore), s)) ≡ Some y → is_refusal y.0 ≡ false
     by true g = ap (λ (z : Answer × State). is_refusal z.0) (sym (same_Some _ y g)) ∙ answered_by A e.number e.posted e.posted.how refl
     by false g = ap (λ (z : Answer × State). is_refusal z.0) (sym (same_Some _ y g))
 recorded_acts A s m p None y h = by (nat_le end_of_numbers s.next_in) h
   where
-    by : (b : Bool) → (if b then None else Some (answer_to A s.next_in p, record s { inbox = s.inbox ++ first_entry s.next_in m p ∷ []; next_in = s.next_in + 1 })) ≡ Some y → is_refusal y.0 ≡ false
+    by : (b : Bool)
+        → (if b then None else Some (answer_to A s.next_in p, record s { inbox = s.inbox ++ first_entry s.next_in m p ∷ []; next_in = s.next_in + 1 })) ≡ Some y → is_refusal y.0 ≡ false
     by true g = absurd (cc)
     by false g = ap (λ (z : Answer × State). is_refusal z.0) (sym (same_Some _ y g)) ∙ answered_by A s.next_in p p.how refl
 

@@ -45,9 +45,11 @@ resent_failed A m d = by (is_organization A d.organization) (partner_of A d.part
     by true None h = absurd (cc)
     by true (Some p) h = resent_by m d (is_settled d) (not (is_error (class_of d.detail))) refl refl h
 
-pub failed_resent : (A : Agreements) (s t : State) (n m : ℕ) → step A s (Resend n m) ≡ Some (Resent, t) → (d : OutEntry) × (document s n ≡ Some d) × (is_settled d ≡ false) × (class_of d.detail ≡ E)
+pub failed_resent : (A : Agreements) (s t : State) (n m : ℕ) → step A s (Resend n m) ≡ Some (Resent, t) → (d : OutEntry) × (document s n ≡ Some d)
+    × (is_settled d ≡ false) × (class_of d.detail ≡ E)
 failed_resent A s t n m h = by (document s n) refl (same_Some _ (Resent, t) h)
   where
-    by : (o : Option OutEntry) → document s n ≡ o → act_on s n (resent A m) o ≡ (Resent, t) → (d : OutEntry) × (document s n ≡ Some d) × (is_settled d ≡ false) × (class_of d.detail ≡ E)
+    by : (o : Option OutEntry) → document s n ≡ o → act_on s n (resent A m) o ≡ (Resent, t) → (d : OutEntry) × (document s n ≡ Some d)
+        × (is_settled d ≡ false) × (class_of d.detail ≡ E)
     by None at g = absurd (let first : Refused NoSuchNumber ≡ Resent = ap (λ (y : Answer × State). y.0) g in cc)
     by (Some d) at g = let is = resent_failed A m d (ap (λ (y : Answer × State). y.0) g) in (d, at, is.0, is.1)

@@ -21,7 +21,8 @@ use Rattle.as2_exchange.proofs.WellFormed.{unsettled_entry, KeepsEntries}
 -- ---- a receipt
 
 -- a verdict is a detail that a receipt alone gives, whichever line fits
-judged_range : (b1 b2 b3 b4 b5 b6 : Bool) → is_by_receipt (if b1 then NotProcessed else if b2 then ErrorModifier else if b3 then MicDiffers else if b4 then Warning else if b5 then NoMic else if b6 then UnknownMic else Processed) ≡ true
+judged_range : (b1 b2 b3 b4 b5 b6 : Bool)
+    → is_by_receipt (if b1 then NotProcessed else if b2 then ErrorModifier else if b3 then MicDiffers else if b4 then Warning else if b5 then NoMic else if b6 then UnknownMic else Processed) ≡ true
 judged_range true b2 b3 b4 b5 b6 = refl
 judged_range false true b3 b4 b5 b6 = refl
 judged_range false false true b4 b5 b6 = refl
@@ -74,7 +75,8 @@ passes_range Overdue a y h = absurd (cc)
 passed_settled : (m : ℕ) (d : OutEntry) → d.due ≡ None → passed_document d (passes_at m d) ≡ d
 passed_settled m d h = rw h refl
 
-passed_by : (d : OutEntry) (o : Option Detail) → ((y : Detail) → o ≡ Some y → is_by_receipt y ≡ false) → is_settled d ≡ false → IsEntry d → IsEntry (passed_document d o)
+passed_by : (d : OutEntry) (o : Option Detail) → ((y : Detail) → o ≡ Some y → is_by_receipt y ≡ false) → is_settled d ≡ false → IsEntry d
+    → IsEntry (passed_document d o)
 passed_by d None range none h = h
 passed_by d (Some y) range none h = unsettled_entry (record d { due = None; detail = y }) none (range y refl) h.tried
 
@@ -94,7 +96,8 @@ passed_keeps m = record { names = passed_names m; entry = λ d h. passed_entry m
 abbrev begun_if : OutEntry → OutEntry → Answer → Bool → Bool → Bool → Answer × OutEntry
 begun_if d x a b1 b2 b3 = if b1 then (Refused AllSettled, d) else if b2 then (Refused TriesUsedUp, d) else if b3 then (Refused NotDue, d) else (a, x)
 
-begun_by : (d x : OutEntry) (a : Answer) (b1 b2 b3 : Bool) → is_settled d ≡ b1 → IsEntry d → (is_settled d ≡ false → IsEntry x) → IsEntry (begun_if d x a b1 b2 b3).1
+begun_by : (d x : OutEntry) (a : Answer) (b1 b2 b3 : Bool) → is_settled d ≡ b1 → IsEntry d → (is_settled d ≡ false → IsEntry x)
+    → IsEntry (begun_if d x a b1 b2 b3).1
 begun_by d x a true b2 b3 is h g = h
 begun_by d x a false true b3 is h g = h
 begun_by d x a false false true is h g = h
@@ -118,14 +121,16 @@ delivered_entry Async p m d none h = unsettled_entry _ none refl h.tried
 delivered_entry NoReceipt p m d none h = unsettled_entry _ none refl h.tried
 delivered_entry Sync p m d none h = failed_entry p m d none h
 
-closed_by_entry : (p : Partner) (got : TryAnswer) (m : ℕ) (d : OutEntry) (o : Option ReceivedReceipt) → is_settled d ≡ false → IsEntry d → IsEntry (closed_by p got m d o).1
+closed_by_entry : (p : Partner) (got : TryAnswer) (m : ℕ) (d : OutEntry) (o : Option ReceivedReceipt) → is_settled d ≡ false → IsEntry d
+    → IsEntry (closed_by p got m d o).1
 closed_by_entry p got m d (Some r) none h = settled_entry m r d h
 closed_by_entry p got m d None none h = if_either IsEntry (is_delivery got) (delivered_document p.receipt p m d) (failed_try p m d) (delivered_entry p.receipt p m d none h) (failed_entry p m d none h)
 
 abbrev closed_if : Partner → TryAnswer → ℕ → OutEntry → Option ReceivedReceipt → Bool → Bool → Answer × OutEntry
 closed_if p got m d o b1 b2 = if b1 then (AlreadySettled, d) else if b2 then (Refused NoOpenTry, d) else closed_by p got m d o
 
-closed_as_entry : (p : Partner) (got : TryAnswer) (m : ℕ) (d : OutEntry) (o : Option ReceivedReceipt) (b1 b2 : Bool) → is_settled d ≡ b1 → IsEntry d → IsEntry (closed_if p got m d o b1 b2).1
+closed_as_entry : (p : Partner) (got : TryAnswer) (m : ℕ) (d : OutEntry) (o : Option ReceivedReceipt) (b1 b2 : Bool) → is_settled d ≡ b1 → IsEntry d
+    → IsEntry (closed_if p got m d o b1 b2).1
 closed_as_entry p got m d o true b2 is h = h
 closed_as_entry p got m d o false true is h = h
 closed_as_entry p got m d o false false is h = closed_by_entry p got m d o is h

@@ -46,7 +46,8 @@ if_good : (b : Bool) (x y : Reading) → IsGood x → IsGood y → IsGood (if b 
 if_good true x y h g = h
 if_good false x y h g = g
 
-document_good : (known : Digests) (names : Text × Text) (type : MediaType × Text) (head : Head) (body : Text) → IsGood (document_posted known names type head body)
+document_good : (known : Digests) (names : Text × Text) (type : MediaType × Text) (head : Head) (body : Text)
+    → IsGood (document_posted known names type head body)
 unfolding IsGood
 document_good known names type head body =
     needs_good (id_of head) BadId _ (λ id. needs_good (ask_of head) BadAsk _ (λ ask. mic_there known _ ask body))
@@ -73,24 +74,28 @@ document_recorded r p h is = subst IsGood is h
 keeps_lasting : (f : InEntry → InEntry) → ((e : InEntry) → lasting_part (f e) ≡ lasting_part e) → KeepsLasting f
 keeps_lasting f kept = record { number = λ e. ap (λ (x : ℕ × Posted). x.0) (kept e); posted = λ e. ap (λ (x : ℕ × Posted). x.1) (kept e) }
 
-changed_lasting : (n : ℕ) (f : InEntry → InEntry) → ((e : InEntry) → lasting_part (f e) ≡ lasting_part e) → (e : InEntry) → lasting_part (if e.number == n then f e else e) ≡ lasting_part e
+changed_lasting : (n : ℕ) (f : InEntry → InEntry) → ((e : InEntry) → lasting_part (f e) ≡ lasting_part e) → (e : InEntry)
+    → lasting_part (if e.number == n then f e else e) ≡ lasting_part e
 changed_lasting n f kept e = by (e.number == n)
   where
     by : (b : Bool) → lasting_part (if b then f e else e) ≡ lasting_part e
     by true = kept e
     by false = refl
 
-received_formed : (A : Agreements) (s : State) (n : ℕ) (f : InEntry → InEntry) → ((e : InEntry) → lasting_part (f e) ≡ lasting_part e) → IsWellFormed A s → IsWellFormed A (change_received s n f)
+received_formed : (A : Agreements) (s : State) (n : ℕ) (f : InEntry → InEntry) → ((e : InEntry) → lasting_part (f e) ≡ lasting_part e) → IsWellFormed A s
+    → IsWellFormed A (change_received s n f)
 received_formed A s n f kept h = record { received = inbox_map s.next_in s.inbox (λ e. if e.number == n then f e else e) (keeps_lasting _ (changed_lasting n f kept)) h.received; sent = h.sent }
 
 document_formed : (A : Agreements) (s : State) (n : ℕ) (f : OutEntry → OutEntry) → KeepsEntries f → IsWellFormed A s → IsWellFormed A (change_document s n f)
 document_formed A s n f kept h = record { received = h.received; sent = outbox_map A s.next_out s.outbox _ (changed_keeps n f kept) h.sent }
 
-acted_formed : (A : Agreements) (s : State) (n : ℕ) (act : OutEntry → Answer × OutEntry) (o : Option OutEntry) → KeepsEntries (λ d. (act d).1) → IsWellFormed A s → IsWellFormed A (act_on s n act o).1
+acted_formed : (A : Agreements) (s : State) (n : ℕ) (act : OutEntry → Answer × OutEntry) (o : Option OutEntry) → KeepsEntries (λ d. (act d).1)
+    → IsWellFormed A s → IsWellFormed A (act_on s n act o).1
 acted_formed A s n act None kept h = h
 acted_formed A s n act (Some d) kept h = document_formed A s n (λ d. (act d).1) kept h
 
-acted_in_formed : (A : Agreements) (s : State) (n : ℕ) (act : InEntry → Answer × InEntry) (o : Option InEntry) → ((e : InEntry) → lasting_part (act e).1 ≡ lasting_part e) → IsWellFormed A s → IsWellFormed A (acted_in s n act o).1
+acted_in_formed : (A : Agreements) (s : State) (n : ℕ) (act : InEntry → Answer × InEntry) (o : Option InEntry)
+    → ((e : InEntry) → lasting_part (act e).1 ≡ lasting_part e) → IsWellFormed A s → IsWellFormed A (acted_in s n act o).1
 acted_in_formed A s n act None kept h = h
 acted_in_formed A s n act (Some e) kept h = received_formed A s n (λ x. (act x).1) kept h
 
@@ -112,33 +117,39 @@ settle_formed A s m r h = settle_for_formed A s m r (document_named s (named_by 
 
 -- ---- what is taken in
 
-taken_formed : (A : Agreements) (s : State) (organization partner content : Text) (m : ℕ) → s.next_out < end_of_numbers → IsWellFormed A s → IsWellFormed A (record s { outbox = s.outbox ++ new_document A s.next_out organization partner content m ∷ []; next_out = s.next_out + 1 })
+taken_formed : (A : Agreements) (s : State) (organization partner content : Text) (m : ℕ) → s.next_out < end_of_numbers → IsWellFormed A s
+    → IsWellFormed A (record s { outbox = s.outbox ++ new_document A s.next_out organization partner content m ∷ []; next_out = s.next_out + 1 })
 taken_formed A s organization partner content m small h = record {
   received = h.received;
   sent = outbox_push A s.next_out s.outbox (new_document A s.next_out organization partner content m) small refl refl (unsettled_entry _ refl refl (λ g. absurd (omega (arith, g)))) h.sent;
 }
 
-submit_formed : (A : Agreements) (s : State) (organization partner content : Text) (m : ℕ) (y : Answer × State) → IsWellFormed A s → submit A s organization partner content m ≡ Some y → IsWellFormed A y.1
+submit_formed : (A : Agreements) (s : State) (organization partner content : Text) (m : ℕ) (y : Answer × State) → IsWellFormed A s
+    → submit A s organization partner content m ≡ Some y → IsWellFormed A y.1
 unfolding submit
 submit_formed A s organization partner content m y h e =
     by (not (is_organization A organization)) (not (is_some (partner_of A partner))) (nat_lt 1048576 (length content)) (nat_le end_of_numbers s.next_out) refl e
   where
-    by : (b1 b2 b3 b4 : Bool) → nat_le end_of_numbers s.next_out ≡ b4 → (if b1 then Some (Refused UnknownOrganization, s) else if b2 then Some (Refused UnknownPartner, s) else if b3 then Some (Refused TooLarge, s) else if b4 then None else Some (Submitted s.next_out, record s { outbox = s.outbox ++ new_document A s.next_out organization partner content m ∷ []; next_out = s.next_out + 1 })) ≡ Some y → IsWellFormed A y.1
+    by : (b1 b2 b3 b4 : Bool) → nat_le end_of_numbers s.next_out ≡ b4
+        → (if b1 then Some (Refused UnknownOrganization, s) else if b2 then Some (Refused UnknownPartner, s) else if b3 then Some (Refused TooLarge, s) else if b4 then None else Some (Submitted s.next_out, record s { outbox = s.outbox ++ new_document A s.next_out organization partner content m ∷ []; next_out = s.next_out + 1 })) ≡ Some y → IsWellFormed A y.1
     by true b2 b3 b4 left g = subst (λ (z : Answer × State). IsWellFormed A z.1) (same_Some _ y g) h
     by false true b3 b4 left g = subst (λ (z : Answer × State). IsWellFormed A z.1) (same_Some _ y g) h
     by false false true b4 left g = subst (λ (z : Answer × State). IsWellFormed A z.1) (same_Some _ y g) h
     by false false false true left g = absurd (cc)
     by false false false false left g = subst (λ (z : Answer × State). IsWellFormed A z.1) (same_Some _ y g) (taken_formed A s organization partner content m (is_left s.next_out left) h)
 
-first_formed : (A : Agreements) (s : State) (m : ℕ) (p : Posted) → s.next_in < end_of_numbers → IsRecorded p → received_as s p ≡ None → IsWellFormed A s → IsWellFormed A (record s { inbox = s.inbox ++ first_entry s.next_in m p ∷ []; next_in = s.next_in + 1 })
+first_formed : (A : Agreements) (s : State) (m : ℕ) (p : Posted) → s.next_in < end_of_numbers → IsRecorded p → received_as s p ≡ None → IsWellFormed A s
+    → IsWellFormed A (record s { inbox = s.inbox ++ first_entry s.next_in m p ∷ []; next_in = s.next_in + 1 })
 first_formed A s m p small good new h = record { received = inbox_push s.next_in s.inbox (first_entry s.next_in m p) small refl good new h.received; sent = h.sent }
 
-left_formed : (A : Agreements) (s : State) (m : ℕ) (p : Posted) (o : Option InEntry) (y : Answer × State) → received_as s p ≡ o → IsRecorded p → IsWellFormed A s → RecordedOrSame A s m p o y → IsWellFormed A y.1
+left_formed : (A : Agreements) (s : State) (m : ℕ) (p : Posted) (o : Option InEntry) (y : Answer × State) → received_as s p ≡ o → IsRecorded p
+    → IsWellFormed A s → RecordedOrSame A s m p o y → IsWellFormed A y.1
 left_formed A s m p o y at good h (fresh none small is) = subst (λ (z : Answer × State). IsWellFormed A z.1) (sym is) (first_formed A s m p small good (at ∙ none) h)
 left_formed A s m p o y at good h (repeated e there same is) = subst (λ (z : Answer × State). IsWellFormed A z.1) (sym is) (received_formed A s e.number (requeued_by_repeat m) (queued_lasting m) h)
 left_formed A s m p o y at good h (clash e there other is) = subst (IsWellFormed A) (sym is) h
 
-record_formed : (A : Agreements) (s : State) (m : ℕ) (p : Posted) (y : Answer × State) → IsRecorded p → IsWellFormed A s → record_post A s m p ≡ Some y → IsWellFormed A y.1
+record_formed : (A : Agreements) (s : State) (m : ℕ) (p : Posted) (y : Answer × State) → IsRecorded p → IsWellFormed A s → record_post A s m p ≡ Some y
+    → IsWellFormed A y.1
 unfolding record_post
 record_formed A s m p y good h e = left_formed A s m p (received_as s p) y refl good h (left_is A s m p (received_as s p) y e)
 

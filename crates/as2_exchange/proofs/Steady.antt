@@ -52,12 +52,14 @@ post_steady A s m (Refuses line) y h = subst (λ (z : Answer × State). Steady s
 post_steady A s m (IsReceipt r) y h = subst (λ (z : Answer × State). Steady s z.1) (same_Some _ y h) (settle_steady s m r)
 post_steady A s m (IsDocument p) y h = recorded_steady A s m p (received_as s p) y (left_is A s m p (received_as s p) y h)
 
-submit_steady : (A : Agreements) (s : State) (organization partner content : Text) (m : ℕ) (y : Answer × State) → submit A s organization partner content m ≡ Some y → Steady s y.1
+submit_steady : (A : Agreements) (s : State) (organization partner content : Text) (m : ℕ) (y : Answer × State)
+    → submit A s organization partner content m ≡ Some y → Steady s y.1
 unfolding submit
 submit_steady A s organization partner content m y h =
     by (not (is_organization A organization)) (not (is_some (partner_of A partner))) (nat_lt 1048576 (length content)) (nat_le end_of_numbers s.next_out) h
   where
-    by : (b1 b2 b3 b4 : Bool) → (if b1 then Some (Refused UnknownOrganization, s) else if b2 then Some (Refused UnknownPartner, s) else if b3 then Some (Refused TooLarge, s) else if b4 then None else Some (Submitted s.next_out, record s { outbox = s.outbox ++ new_document A s.next_out organization partner content m ∷ []; next_out = s.next_out + 1 })) ≡ Some y → Steady s y.1
+    by : (b1 b2 b3 b4 : Bool)
+        → (if b1 then Some (Refused UnknownOrganization, s) else if b2 then Some (Refused UnknownPartner, s) else if b3 then Some (Refused TooLarge, s) else if b4 then None else Some (Submitted s.next_out, record s { outbox = s.outbox ++ new_document A s.next_out organization partner content m ∷ []; next_out = s.next_out + 1 })) ≡ Some y → Steady s y.1
     by true b2 b3 b4 g = subst (λ (z : Answer × State). Steady s z.1) (same_Some _ y g) (steady s)
     by false true b3 b4 g = subst (λ (z : Answer × State). Steady s z.1) (same_Some _ y g) (steady s)
     by false false true b4 g = subst (λ (z : Answer × State). Steady s z.1) (same_Some _ y g) (steady s)

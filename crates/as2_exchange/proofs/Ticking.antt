@@ -16,7 +16,8 @@ one_if : Bool → ℕ
 one_if b = if b then 1 else 0
 
 -- one more is given up exactly where a document passes
-passing : (x : Detail) (a : Attempt) (d : OutEntry) → d.detail ≡ x → one_if (is_given_up (passed_document d (passes_into x a)).detail) ≡ one_if (is_given_up d.detail) + one_if (is_some (passes_into x a))
+passing : (x : Detail) (a : Attempt) (d : OutEntry) → d.detail ≡ x
+    → one_if (is_given_up (passed_document d (passes_into x a)).detail) ≡ one_if (is_given_up d.detail) + one_if (is_some (passes_into x a))
 unfolding one_if
 passing Awaiting a d h = rw h refl
 passing Sending Last d h = rw h refl
@@ -41,7 +42,8 @@ unfolding one_if
 passing_if true d = passing d.detail d.attempt d refl
 passing_if false d = omega arith
 
-counted : (m : ℕ) (ds : List OutEntry) → count_by (λ d. is_given_up d.detail) (map (λ d. passed_document d (passes_at m d)) ds) ≡ count_by (λ d. is_given_up d.detail) ds + count_by (λ d. is_some (passes_at m d)) ds
+counted : (m : ℕ) (ds : List OutEntry)
+    → count_by (λ d. is_given_up d.detail) (map (λ d. passed_document d (passes_at m d)) ds) ≡ count_by (λ d. is_given_up d.detail) ds + count_by (λ d. is_some (passes_at m d)) ds
 unfolding one_if
 counted m [] = refl
 counted m (d ∷ ds) =
@@ -55,5 +57,6 @@ tick_counted : (m : ℕ) (s : State) → (n : ℕ) × ((tick m s).0 ≡ Ticked n
 unfolding tick
 tick_counted m s = (count_by (λ d. is_some (passes_at m d)) s.outbox, refl, counted m s.outbox)
 
-pub ticked_counts : (A : Agreements) (s t : State) (m : ℕ) (a : Answer) → step A s (Tick m) ≡ Some (a, t) → (n : ℕ) × (a ≡ Ticked n) × (given_up t ≡ given_up s + n)
+pub ticked_counts : (A : Agreements) (s t : State) (m : ℕ) (a : Answer) → step A s (Tick m) ≡ Some (a, t) → (n : ℕ) × (a ≡ Ticked n)
+    × (given_up t ≡ given_up s + n)
 ticked_counts A s t m a h = subst (λ (y : Answer × State). (n : ℕ) × (y.0 ≡ Ticked n) × (given_up y.1 ≡ given_up s + n)) (same_Some _ (a, t) h) (tick_counted m s)

@@ -37,7 +37,8 @@ counted n small h = record { least = omega (arith, h.least); most = omega arith 
 
 -- ---- the inbox
 
-pub inbox_push : (n : ℕ) (es : List InEntry) (e : InEntry) → n < end_of_numbers → e.number ≡ n → IsRecorded e.posted → find (λ (x : InEntry). same_key x.posted e.posted) es ≡ None → IsInbox n es → IsInbox (n + 1) (es ++ e ∷ [])
+pub inbox_push : (n : ℕ) (es : List InEntry) (e : InEntry) → n < end_of_numbers → e.number ≡ n → IsRecorded e.posted
+    → find (λ (x : InEntry). same_key x.posted e.posted) es ≡ None → IsInbox n es → IsInbox (n + 1) (es ++ e ∷ [])
 inbox_push n es e small num good new h = record {
   counter = counted n small h.counter;
   numbers = subst (AreNumbers (n + 1)) (sym (map_last (λ (x : InEntry). x.number) es e ∙ ap (λ k. map (λ (x : InEntry). x.number) es ++ k ∷ []) num)) (numbers_push n (map (λ (x : InEntry). x.number) es) h.numbers);
@@ -61,7 +62,9 @@ inbox_map n es f kept h = record {
 -- ---- the outbox
 
 -- the identifiers of these documents have other values than that of a number that is still to be given
-other_ids : (A : Agreements) (n : ℕ) → n < end_of_numbers → (ds : List OutEntry) → AllByRecursion (λ (d : OutEntry). d.id ≡ out_id A d.number) ds → AllByRecursion (λ k. k < n) (map (λ (d : OutEntry). d.number) ds) → AllByRecursion (λ value. bytes_eq value (value_of (out_id A n)) ≡ false) (map (λ (d : OutEntry). value_of d.id) ds)
+other_ids : (A : Agreements) (n : ℕ) → n < end_of_numbers → (ds : List OutEntry) → AllByRecursion (λ (d : OutEntry). d.id ≡ out_id A d.number) ds
+    → AllByRecursion (λ k. k < n) (map (λ (d : OutEntry). d.number) ds)
+    → AllByRecursion (λ value. bytes_eq value (value_of (out_id A n)) ≡ false) (map (λ (d : OutEntry). value_of d.id) ds)
 other_ids A n small [] named below = tt
 other_ids A n small (d ∷ ds) named below = (by (bytes_eq (value_of d.id) (value_of (out_id A n))) refl, other_ids A n small ds named.1 below.1)
   where
@@ -71,7 +74,8 @@ other_ids A n small (d ∷ ds) named below = (by (bytes_eq (value_of d.id) (valu
         let same : d.number ≡ n = out_id-injective A d.number n (omega (arith, below.0)) small (sym (ap value_of named.0) ∙ (bytes_eq-Decides (value_of d.id) (value_of (out_id A n))).0 is) in
         absurd (omega (arith, below.0))
 
-pub outbox_push : (A : Agreements) (n : ℕ) (ds : List OutEntry) (d : OutEntry) → n < end_of_numbers → d.number ≡ n → d.id ≡ out_id A n → IsEntry d → IsOutbox A n ds → IsOutbox A (n + 1) (ds ++ d ∷ [])
+pub outbox_push : (A : Agreements) (n : ℕ) (ds : List OutEntry) (d : OutEntry) → n < end_of_numbers → d.number ≡ n → d.id ≡ out_id A n → IsEntry d
+    → IsOutbox A n ds → IsOutbox A (n + 1) (ds ++ d ∷ [])
 outbox_push A n ds d small num id good h = record {
   counter = counted n small h.counter;
   numbers = subst (AreNumbers (n + 1)) (sym (map_last (λ (x : OutEntry). x.number) ds d ∙ ap (λ k. map (λ (x : OutEntry). x.number) ds ++ k ∷ []) num)) (numbers_push n (map (λ (x : OutEntry). x.number) ds) h.numbers);

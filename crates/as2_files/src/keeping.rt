@@ -50,7 +50,8 @@ pub trait KeepFiles<R: Records> {
     /// Makes records of an earlier version in the files of that name those of the version that is read, and closes them.
     fn migrate_records(self, rt: &HostRuntime, name: &str) -> Result<Moved<Self::Disk>, OpenFault>
         ensures moved { IfOk result (λ it. IsCleanEnd Self.Disk.Disk (Some it.end) → (s : State)
-            → HoldsEarlier (image name.now) s → EndsIn Self.Disk.Disk R.Records.shows left_of it.end (migrated_if_first s)) }
+            → HoldsEarlier (image name.now) s
+            → EndsIn Self.Disk.Disk R.Records.shows left_of it.end (migrated_if_first s)) }
         ensures alone { IfOk result (λ it. IfClosed (NeedsNoLog Self.Disk.Disk) it.end) };
 
     /// Closes the records into their files.

@@ -112,7 +112,8 @@ pub fn migrate_in_files<F: OpenFiles>(
     name: &str,
 ) -> Result<Moved<F::Disk>, OpenFault>
     ensures moved { IfOk result (λ it. IsCleanEnd F.Disk.Disk (Some it.end) → (s : State)
-        → HoldsEarlier (F.image name.now) s → EndsIn F.Disk.Disk records_of_store (AreLeftBy F.Disk.Disk) it.end (migrated_if_first s)) }
+        → HoldsEarlier (F.image name.now) s
+        → EndsIn F.Disk.Disk records_of_store (AreLeftBy F.Disk.Disk) it.end (migrated_if_first s)) }
     ensures alone { IfOk result (λ it. IfClosed (NeedsNoLog F.Disk.Disk) it.end) }
 {
     let mut conn = match opener.open_files(rt, name) {

@@ -17,7 +17,8 @@ use Rattle.as2_framing.proofs.OneBody.{begins_one, front_once, never_faulty, nev
 
 -- ---- a piece
 
-chunked_feeds : (old new : ChunkedBody) (how : BodyFraming) (body next text rest : List ℕ) (f : BodyPiece) → (HoldsChunked old body text rest → Feeds new next text rest f)
+chunked_feeds : (old new : ChunkedBody) (how : BodyFraming) (body next text rest : List ℕ) (f : BodyPiece)
+    → (HoldsChunked old body text rest → Feeds new next text rest f)
     → HoldsBody (missing.Chunked old) how body text rest → FeedsBody (missing.Chunked old) (missing.Chunked new) how next text rest f
 chunked_feeds old new (framing.Length n) body next text rest f feeds h = absurd h
 chunked_feeds old new framing.Chunked body next text rest fed.Open feeds h = let k = feeds h in (tt, k.0, k.1)
@@ -25,8 +26,10 @@ chunked_feeds old new framing.Chunked body next text rest (fed.Whole n) feeds h 
 chunked_feeds old new framing.Chunked body next text rest fed.Bad feeds h = feeds h
 chunked_feeds old new framing.Chunked body next text rest fed.TooLarge feeds h = feeds h
 
-pub chunked_fed : {E : Type 0} (old new : ChunkedBody) (body next bytes : List ℕ) (r : Result BodyPiece E) → IfOk r (λ f. (text : List ℕ) → HoldsChunked old body text bytes → Feeds new next text bytes f)
-    → IfOk r (λ f. (how : BodyFraming) (text : List ℕ) → HoldsBody (missing.Chunked old) how body text bytes → FeedsBody (missing.Chunked old) (missing.Chunked new) how next text bytes f)
+pub chunked_fed : {E : Type 0} (old new : ChunkedBody) (body next bytes : List ℕ) (r : Result BodyPiece E)
+    → IfOk r (λ f. (text : List ℕ) → HoldsChunked old body text bytes → Feeds new next text bytes f)
+    → IfOk r (λ f. (how : BodyFraming) (text : List ℕ) → HoldsBody (missing.Chunked old) how body text bytes
+    → FeedsBody (missing.Chunked old) (missing.Chunked new) how next text bytes f)
 chunked_fed old new body next bytes (Ok f) feeds = λ how text h. chunked_feeds old new how body next text bytes f (feeds text) h
 chunked_fed old new body next bytes (Err e) feeds = tt
 
@@ -59,7 +62,8 @@ large_body_append framing.Chunked text more b = large_append text more b
 
 -- ---- one thing
 
-pub one_body : (how : BodyFraming) (text body rest other tail : List ℕ) → BeginsBody how text body rest → BeginsBody how text other tail → (body ≡ other) × (rest ≡ tail)
+pub one_body : (how : BodyFraming) (text body rest other tail : List ℕ) → BeginsBody how text body rest → BeginsBody how text other tail → (body ≡ other)
+    × (rest ≡ tail)
 one_body (framing.Length n) text body rest other tail b c = front_once body other rest tail (b.0 ∙ sym c.0) (sym b.1 ∙ c.1)
 one_body framing.Chunked text body rest other tail b c = begins_one text body rest other tail b c
 

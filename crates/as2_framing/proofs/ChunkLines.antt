@@ -69,7 +69,8 @@ front_passes test (c ∷ xs) ys all =
     All-cons (λ v. test v ≡ true) c xs (All-head (λ v. test v ≡ true) c (xs ++ ys) all) (front_passes test xs ys (All-tail (λ v. test v ≡ true) c (xs ++ ys) all))
 
 -- CR LF comes, where the text doesn't end in CR
-plain_room : (buf ahead k : List ℕ) (test : ℕ → Bool) → buf ≡ ahead ++ k → AllPass test k → (test 13 ≡ true → ⊥) → (k ≡ [] → length ahead ≤ 1022) → Room buf → length buf + 2 ≤ 1024
+plain_room : (buf ahead k : List ℕ) (test : ℕ → Bool) → buf ≡ ahead ++ k → AllPass test k → (test 13 ≡ true → ⊥) → (k ≡ [] → length ahead ≤ 1022) → Room buf
+    → length buf + 2 ≤ 1024
 plain_room buf ahead k test e all not_so few (inl room) = room
 plain_room buf ahead k test e all not_so few (inr room) =
     elim (ends_in ahead k room.1.0 (sym e ∙ room.1.1)) [
@@ -110,11 +111,13 @@ few buf (inl room) = omega (arith, room)
 few buf (inr room) = omega (arith, room.0)
 
 -- in the line end, of which no more than a byte is missing
-in_end : (buf k m : List ℕ) (l : ChunkLine) → IsChunkLine l → buf ++ m ≡ print_chunk_line l → (13 ∷ 10 ∷ [] ≡ k ++ m) → (k ≡ [] → MayHaveLine buf) → Room buf → MayHaveLine buf
+in_end : (buf k m : List ℕ) (l : ChunkLine) → IsChunkLine l → buf ++ m ≡ print_chunk_line l → (13 ∷ 10 ∷ [] ≡ k ++ m) → (k ≡ [] → MayHaveLine buf) → Room buf
+    → MayHaveLine buf
 in_end buf [] m l is e cr plain room = plain refl
 in_end buf (b ∷ k) m l is e cr plain room = finish buf l m is e (omega (arith, few buf room, ap length cr, length-append (b ∷ k) m))
 
-behind_pad : (buf k m : List ℕ) (l : ChunkLine) (x : Option (List ℕ)) → IsChunkLine l → l.extension ≡ x → buf ++ m ≡ print_chunk_line l → buf ≡ (l.digits ++ l.pad) ++ k → print_extension x ++ 13 ∷ 10 ∷ [] ≡ k ++ m → Room buf → MayHaveLine buf
+behind_pad : (buf k m : List ℕ) (l : ChunkLine) (x : Option (List ℕ)) → IsChunkLine l → l.extension ≡ x → buf ++ m ≡ print_chunk_line l
+    → buf ≡ (l.digits ++ l.pad) ++ k → print_extension x ++ 13 ∷ 10 ∷ [] ≡ k ++ m → Room buf → MayHaveLine buf
 behind_pad buf k m l None is x e b r room =
     in_end buf k m l is e r
     (λ none. behind_digits buf l.pad l is (b ∙ ap (λ (t : List ℕ). (l.digits ++ l.pad) ++ t) none ∙ append-nil (l.digits ++ l.pad)) is.pad room) room
@@ -166,7 +169,8 @@ same_front (x ∷ xs) (y ∷ ys) a b e =
     rw same (ap (λ (t : List ℕ). y ∷ t) (same_front xs ys a b rest))
 
 -- a whole line goes on with what is missing of a text: all of it, its LF, or more
-ended : (buf k : List ℕ) (l : ChunkLine) → print_chunk_line l ≡ buf ++ k → length (print_chunk_line l) ≤ 1024 → 1024 < length buf + 2 → (length buf < 1024 → EndsInReturn buf → ⊥) → (buf ≡ print_chunk_line l ++ [] → ⊥) → ⊥
+ended : (buf k : List ℕ) (l : ChunkLine) → print_chunk_line l ≡ buf ++ k → length (print_chunk_line l) ≤ 1024 → 1024 < length buf + 2
+    → (length buf < 1024 → EndsInReturn buf → ⊥) → (buf ≡ print_chunk_line l ++ [] → ⊥) → ⊥
 ended buf [] l e short long not_so whole = whole (sym (append-nil buf) ∙ sym e ∙ sym (append-nil (print_chunk_line l)))
 ended buf (c ∷ []) l e short long not_so whole =
     let last : buf ++ c ∷ [] ≡ (text_of l ++ 13 ∷ []) ++ 10 ∷ [] = sym e ∙ spelled l ∙ sym (append_assoc (text_of l) (13 ∷ []) (10 ∷ [])) in
@@ -182,13 +186,15 @@ line_too_long buf none long not_so more size after h =
 
 -- ---- what is a line
 
-pub told_complete : (s : Status (ℕ × ℕ)) (n size : ℕ) (P : ℕ × ℕ → Type 0) → s ≡ Complete (n, size) → IfComplete {A = ℕ × ℕ} {E = InvalidChunkSize} (Ok s) P → P (n, size)
+pub told_complete : (s : Status (ℕ × ℕ)) (n size : ℕ) (P : ℕ × ℕ → Type 0) → s ≡ Complete (n, size) → IfComplete {A = ℕ × ℕ} {E = InvalidChunkSize} (Ok s) P
+    → P (n, size)
 told_complete s n size P is h = subst (λ (t : Status (ℕ × ℕ)). IfComplete {A = ℕ × ℕ} {E = InvalidChunkSize} (Ok t) P) is h
 
 pub told_partial : (s : Status (ℕ × ℕ)) (P : Type 0) → s ≡ Partial → OnPartial {A = ℕ × ℕ} {E = InvalidChunkSize} (Ok s) P → P
 told_partial s P is h = subst (λ (t : Status (ℕ × ℕ)). OnPartial {A = ℕ × ℕ} {E = InvalidChunkSize} (Ok t) P) is h
 
-pub line_found : (buf : List ℕ) (n size : ℕ) (l : ChunkLine) → IsChunkLineAt buf n size l → length buf ≤ 1024 → (0 < n) × (n ≤ length buf) × HasLine buf size (drop n buf)
+pub line_found : (buf : List ℕ) (n size : ℕ) (l : ChunkLine) → IsChunkLineAt buf n size l → length buf ≤ 1024 → (0 < n) × (n ≤ length buf)
+    × HasLine buf size (drop n buf)
 line_found buf n size l at short =
     let whole : length buf ≡ length (print_chunk_line l) + length (drop n buf) = ap length at.reads.1 ∙ length-append (print_chunk_line l) (drop n buf) in
     let some : length (print_chunk_line l) ≡ length (text_of l) + 2 = ap length (spelled l) ∙ length-append (text_of l) (13 ∷ 10 ∷ []) in
@@ -197,7 +203,8 @@ line_found buf n size l at short =
 pub has_line_append : (text more after : List ℕ) (size : ℕ) → HasLine text size after → HasLine (text ++ more) size (after ++ more)
 has_line_append text more after size h = record { line = h.line; reads = ReadsChunkLine-append text h.line after more h.reads; short = h.short; says = h.says }
 
-shorter : (buf k : List ℕ) (l : ChunkLine) → print_chunk_line l ≡ buf ++ k → length (print_chunk_line l) ≤ 1024 → (buf ≡ print_chunk_line l ++ [] → ⊥) → length buf < 1024
+shorter : (buf k : List ℕ) (l : ChunkLine) → print_chunk_line l ≡ buf ++ k → length (print_chunk_line l) ≤ 1024 → (buf ≡ print_chunk_line l ++ [] → ⊥)
+    → length buf < 1024
 shorter buf [] l e short whole = absurd (whole (sym (append-nil buf) ∙ sym e ∙ sym (append-nil (print_chunk_line l))))
 shorter buf (c ∷ k) l e short whole = omega (arith, short, ap length e, length-append buf (c ∷ k))
 
@@ -218,7 +225,8 @@ nothing_open = (
 )
 
 -- a line behind bytes in which none was ends in what follows them
-pub line_behind : (kept rest : List ℕ) (size n : ℕ) → HasNoLine kept → n ≤ length (kept ++ rest) → HasLine (kept ++ rest) size (drop n (kept ++ rest)) → length kept < n
+pub line_behind : (kept rest : List ℕ) (size n : ℕ) → HasNoLine kept → n ≤ length (kept ++ rest) → HasLine (kept ++ rest) size (drop n (kept ++ rest))
+    → length kept < n
 line_behind kept rest size n none within h =
     elim (cases_lt (length kept) n) [
       | inl less ↦ less

@@ -39,11 +39,13 @@ chunks_append (bytes ∷ chunks) text after more all = (all.0 ++ more, chunk_app
 pub behind_append : (text after bytes more : List ℕ) → IsBehind text after bytes → IsBehind (text ++ more) (after ++ more) bytes
 behind_append text after bytes more b = record { chunks = b.chunks; all = chunks_append b.chunks text after more b.all; joined = b.joined; short = b.short }
 
-chunks_push : (chunks : List (List ℕ)) (text at bytes after : List ℕ) → HasChunks chunks text at → HasChunk at bytes after → HasChunks (chunks ++ bytes ∷ []) text after
+chunks_push : (chunks : List (List ℕ)) (text at bytes after : List ℕ) → HasChunks chunks text at → HasChunk at bytes after
+    → HasChunks (chunks ++ bytes ∷ []) text after
 chunks_push [] text at bytes after all chunk = (after, subst (λ (t : List ℕ). HasChunk t bytes after) (sym all) chunk, refl)
 chunks_push (first ∷ chunks) text at bytes after all chunk = (all.0, all.1, chunks_push chunks all.0 at bytes after all.2 chunk)
 
-pub behind_push : (text at bytes chunk after : List ℕ) → IsBehind text at bytes → HasChunk at chunk after → length bytes + length chunk ≤ 1048576 → IsBehind text after (bytes ++ chunk)
+pub behind_push : (text at bytes chunk after : List ℕ) → IsBehind text at bytes → HasChunk at chunk after → length bytes + length chunk ≤ 1048576
+    → IsBehind text after (bytes ++ chunk)
 behind_push text at bytes chunk after b c fits = record {
   chunks = b.chunks ++ chunk ∷ [];
   all = chunks_push b.chunks text at chunk after b.all c;
@@ -92,7 +94,8 @@ chunk_more front body text more h = record {
   fits = h.fits;
 }
 
-trailer_more : (count : ℕ) (line : LineSoFar) (body text more : List ℕ) → HoldsTrailer count line body text [] → HoldsTrailer count line body (text ++ more) more
+trailer_more : (count : ℕ) (line : LineSoFar) (body text more : List ℕ) → HoldsTrailer count line body text []
+    → HoldsTrailer count line body (text ++ more) more
 trailer_more count line body text more h = record {
   at = h.at ++ more;
   trailer = h.trailer ++ more;
@@ -209,14 +212,16 @@ finds_line kept front rest body text n size is found h =
       subst (λ (t : List ℕ). HasLine t size (drop k rest)) (sym (looked_in m kept front rest h.at is h.follows)) (subst (HasLine ((kept ++ front) ++ drop m rest) size) tail line),
     )
 
-pub finds_bad : (m : ℕ) (kept front rest body text : List ℕ) → front ≡ take m rest → NeverHasLine (kept ++ front) → HoldsLine kept body text rest → IsBadChunk text
+pub finds_bad : (m : ℕ) (kept front rest body text : List ℕ) → front ≡ take m rest → NeverHasLine (kept ++ front) → HoldsLine kept body text rest
+    → IsBadChunk text
 finds_bad m kept front rest body text is never h =
     bad_line h.at body h.behind (λ more size after l. never (drop m rest ++ more) size after
     (subst (λ (t : List ℕ). HasLine t size after) (ap (λ (t : List ℕ). t ++ more) (looked_in m kept front rest h.at is h.follows) ∙ append_assoc (kept ++ front) (drop m rest) more) l))
 
 -- ---- behind a chunk line
 
-pub begins_trailer : (body text rest : List ℕ) (n : ℕ) → (at : List ℕ) × IsBehind text at body × HasLine at 0 (drop n rest) → HoldsTrailer 0 Nothing body text (drop n rest)
+pub begins_trailer : (body text rest : List ℕ) (n : ℕ) → (at : List ℕ) × IsBehind text at body × HasLine at 0 (drop n rest)
+    → HoldsTrailer 0 Nothing body text (drop n rest)
 begins_trailer body text rest n found = record {
   at = found.0;
   trailer = drop n rest;
@@ -230,7 +235,8 @@ begins_trailer body text rest n found = record {
   short = omega arith;
 }
 
-pub begins_bytes : (body text rest : List ℕ) (n size : ℕ) → 0 < size → length body + size ≤ 1048576 → (at : List ℕ) × IsBehind text at body × HasLine at size (drop n rest) → HoldsBytes size body text (drop n rest)
+pub begins_bytes : (body text rest : List ℕ) (n size : ℕ) → 0 < size → length body + size ≤ 1048576 → (at : List ℕ) × IsBehind text at body
+    × HasLine at size (drop n rest) → HoldsBytes size body text (drop n rest)
 begins_bytes body text rest n size some fits found = record {
   at = found.0;
   bytes = body;
@@ -246,7 +252,8 @@ begins_bytes body text rest n size some fits found = record {
   fits = fits;
 }
 
-pub too_large : (body text rest : List ℕ) (n size : ℕ) → 1048576 < length body + size → (at : List ℕ) × IsBehind text at body × HasLine at size (drop n rest) → IsTooLarge text
+pub too_large : (body text rest : List ℕ) (n size : ℕ) → 1048576 < length body + size → (at : List ℕ) × IsBehind text at body × HasLine at size (drop n rest)
+    → IsTooLarge text
 too_large body text rest n size large found = record { at = found.0; bytes = body; size = size; after = drop n rest; behind = found.1; line = found.2; large = large }
 
 -- ---- the bytes of a chunk
@@ -292,7 +299,8 @@ first_is : (rest : List ℕ) (b : ℕ) → 0 < length rest → get_or rest 0 0 �
 first_is [] b some is = omega_none (omega (arith, some))
 first_is (c ∷ rest) b some is = ap (λ (d : ℕ). d ∷ rest) is
 
-pub takes_return : (body text rest : List ℕ) → 0 < length rest → get_or rest 0 0 ≡ 13 → HoldsChunk [] body text rest → HoldsChunk (13 ∷ []) body text (drop 1 rest)
+pub takes_return : (body text rest : List ℕ) → 0 < length rest → get_or rest 0 0 ≡ 13 → HoldsChunk [] body text rest
+    → HoldsChunk (13 ∷ []) body text (drop 1 rest)
 takes_return body text rest some is h = record {
   at = h.at;
   bytes = h.bytes;
@@ -370,7 +378,8 @@ takes_trailer count line next front body text rest is opened room h =
       short = omega (arith, room, some);
     }
 
-pub bad_trailer_of : (count : ℕ) (line next : LineSoFar) (front body text rest : List ℕ) → front ≡ take (16384 - count) rest → scan_from 0 line front ≡ Open next
+pub bad_trailer_of : (count : ℕ) (line next : LineSoFar) (front body text rest : List ℕ) → front ≡ take (16384 - count) rest
+    → scan_from 0 line front ≡ Open next
     → 16384 - count < length front + missing_of next → HoldsTrailer count line body text rest → IsBadChunk text
 bad_trailer_of count line next front body text rest is opened long h =
     let ran : Runs h.came front 0 (Open next) = subst (Runs h.came front 0) opened (runs front h.came 0 line h.none h.last) in
@@ -391,12 +400,14 @@ found_as kept body text rest r q is h = subst (FindsLine kept body text rest) is
 pub stepped_as : (c : ChunkedBody) (body text rest : List ℕ) (s q : ChunkStep) → s ≡ q → StepsTo c body text rest s → StepsTo c body text rest q
 stepped_as c body text rest s q is h = subst (StepsTo c body text rest) is h
 
-pub stays_in_line : (c : ChunkedBody) (body text rest : List ℕ) → c.place ≡ place.Line → HoldsLine c.line.items body text [] → HoldsChunked c body text (drop (length rest) rest)
+pub stays_in_line : (c : ChunkedBody) (body text rest : List ℕ) → c.place ≡ place.Line → HoldsLine c.line.items body text []
+    → HoldsChunked c body text (drop (length rest) rest)
 stays_in_line c body text rest is h =
     subst (λ (p : ChunkPlace). HoldsAt p c.line.items body text (drop (length rest) rest)) (sym is)
     (subst (HoldsLine c.line.items body text) (sym (drop_all (length rest) rest (omega arith))) h)
 
-pub goes_on : (p : ChunkPlace) (kept body text rest : List ℕ) (n size came : ℕ) → length body ≡ came → FindsLine kept body text rest (read.Line n size) → GoesOn size came (Some p)
+pub goes_on : (p : ChunkPlace) (kept body text rest : List ℕ) (n size came : ℕ) → length body ≡ came → FindsLine kept body text rest (read.Line n size)
+    → GoesOn size came (Some p)
     → HoldsAt p kept body text (drop n rest)
 goes_on p kept body text rest n size came many found (inl ends) =
     subst (λ (q : ChunkPlace). HoldsAt q kept body text (drop n rest)) (sym ends.1)
@@ -405,7 +416,8 @@ goes_on p kept body text rest n size came many found (inr more) =
     subst (λ (q : ChunkPlace). HoldsAt q kept body text (drop n rest)) (sym more.2)
     (found.0, begins_bytes body text rest n size more.0 (omega (arith, more.1, many)) found.1)
 
-pub goes_nowhere : (kept body text rest : List ℕ) (n size came : ℕ) → length body ≡ came → FindsLine kept body text rest (read.Line n size) → 1048576 < came + size → IsTooLarge text
+pub goes_nowhere : (kept body text rest : List ℕ) (n size came : ℕ) → length body ≡ came → FindsLine kept body text rest (read.Line n size)
+    → 1048576 < came + size → IsTooLarge text
 goes_nowhere kept body text rest n size came many found large = too_large body text rest n size (omega (arith, large, many)) found.1
 
 pub all_taken : (c : ChunkedBody) (body text rest : List ℕ) → rest ≡ [] → HoldsChunked c body text rest → IsOpenChunked text × HoldsChunked c body text []

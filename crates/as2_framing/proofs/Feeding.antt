@@ -48,8 +48,10 @@ pub short_window : (text : List ℕ) → length text ≤ head_limit → window t
 short_window text le = ap unblank (take_all head_limit text le)
 
 -- the pieces' bytes were scanned, and no empty line ended
-pub added_none : (old new : HeadBytes) (text front : List ℕ) (blank : ℕ) (line : LineSoFar) → HoldsText old text → LeavesRest old.text.items front blank → blank ≤ length front
-    → scan_from 0 old.line (drop blank front) ≡ Open line → new.text.items ≡ old.text.items ++ drop blank front → new.skipped ≡ old.skipped + blank → new.line ≡ line → HoldsText new (text ++ front)
+pub added_none : (old new : HeadBytes) (text front : List ℕ) (blank : ℕ) (line : LineSoFar) → HoldsText old text → LeavesRest old.text.items front blank
+    → blank ≤ length front
+    → scan_from 0 old.line (drop blank front) ≡ Open line → new.text.items ≡ old.text.items ++ drop blank front → new.skipped ≡ old.skipped + blank
+    → new.line ≡ line → HoldsText new (text ++ front)
 added_none old new text front blank line h k le s items skipped same =
     let r : Runs old.text.items (drop blank front) 0 (Open line) = subst (Runs old.text.items (drop blank front) 0) s (runs (drop blank front) old.text.items 0 old.line h.none h.line) in
     record {
@@ -60,9 +62,11 @@ added_none old new text front blank line h k le s items skipped same =
     }
 
 -- .. or one ended
-pub added_some : (old new : HeadBytes) (text front : List ℕ) (blank count : ℕ) → HoldsText old text → LeavesRest old.text.items front blank → blank ≤ length front
+pub added_some : (old new : HeadBytes) (text front : List ℕ) (blank count : ℕ) → HoldsText old text → LeavesRest old.text.items front blank
+    → blank ≤ length front
     → old.skipped + length old.text.items + length front ≤ head_limit
-    → scan_from 0 old.line (drop blank front) ≡ Ended count → new.text.items ≡ old.text.items ++ take count (drop blank front) → EndsHead new text front (blank + count)
+    → scan_from 0 old.line (drop blank front) ≡ Ended count → new.text.items ≡ old.text.items ++ take count (drop blank front)
+    → EndsHead new text front (blank + count)
 added_some old new text front blank count h k le room s items =
     let rest = drop blank front in
     let r : Runs old.text.items rest 0 (Ended count) = subst (Runs old.text.items rest 0) s (runs rest old.text.items 0 old.line h.none h.line) in
@@ -98,13 +102,15 @@ fed_whole new text bytes room n e =
           (head_append (text ++ take room bytes) (drop room bytes) new.text.items (drop n (take room bytes)) e.found)));
     }
 
-pub fed_open : (new : HeadBytes) (text bytes : List ℕ) (room : ℕ) → HoldsText new (text ++ take room bytes) → length bytes < room → length text + room ≡ head_limit → HoldsHead new (text ++ bytes)
+pub fed_open : (new : HeadBytes) (text bytes : List ℕ) (room : ℕ) → HoldsText new (text ++ take room bytes) → length bytes < room
+    → length text + room ≡ head_limit → HoldsHead new (text ++ bytes)
 fed_open new text bytes room h short limit = record {
   holds = subst (λ (t : List ℕ). HoldsText new (text ++ t)) (take_all room bytes (omega (arith, short))) h;
   short = omega (arith, length-append text bytes, short, limit);
 }
 
-pub fed_long : (new : HeadBytes) (text bytes : List ℕ) (room : ℕ) → HoldsText new (text ++ take room bytes) → room ≤ length bytes → length text + room ≡ head_limit
+pub fed_long : (new : HeadBytes) (text bytes : List ℕ) (room : ℕ) → HoldsText new (text ++ take room bytes) → room ≤ length bytes
+    → length text + room ≡ head_limit
     → HasNoHeadText (text ++ bytes) × (head_limit ≤ length (text ++ bytes))
 fed_long new text bytes room h long limit =
     let front = text ++ take room bytes in

@@ -52,7 +52,8 @@ pub longer : (b c : ℕ) (line : List ℕ) → eqb b 10 ≡ false → eqb c 10 �
 longer b c line f u = elim (cases_Bool (eqb b 13)) [ inl t ↦ rw (f, t, u) refl | inr g ↦ rw (f, g) refl ]
 
 pub first_longer : (b c : ℕ) (ls : List (List ℕ)) → eqb b 10 ≡ false → eqb c 10 ≡ false
-    → (list_any is_empty_line (onto_first b (onto_first c ls)) ≡ list_any is_empty_line (drop 1 ls)) × ((cut_at_empty_line (onto_first b (onto_first c ls))).1 ≡ (cut_at_empty_line (drop 1 ls)).1)
+    → (list_any is_empty_line (onto_first b (onto_first c ls)) ≡ list_any is_empty_line (drop 1 ls))
+    × ((cut_at_empty_line (onto_first b (onto_first c ls))).1 ≡ (cut_at_empty_line (drop 1 ls)).1)
 first_longer b c [] f u = rw (longer b c [] f u) (refl, refl)
 first_longer b c (line ∷ ls) f u = rw (longer b c line f u) (refl, refl)
 
@@ -65,7 +66,8 @@ abbrev lines_from : Bool → List ℕ → List (List ℕ)
 lines_from true text = lines text
 lines_from false text = drop 1 (lines text)
 
-grows : (all : Bool) (text more : List ℕ) → list_any is_empty_line (lines_from all text) ≡ true → Grows more (lines_from all text) (lines_from all (text ++ more))
+grows : (all : Bool) (text more : List ℕ) → list_any is_empty_line (lines_from all text) ≡ true
+    → Grows more (lines_from all text) (lines_from all (text ++ more))
 grows true [] more h = absurd cc
 grows false [] more h = absurd cc
 grows false (b ∷ rest) more h =
@@ -96,7 +98,8 @@ grows true (b ∷ c ∷ rest) more h =
     ]
 
 -- how long the text is up to there
-pub line_end : (text : List ℕ) (k : ℕ) → up_to_empty_line text ≡ Some k → (list_any is_empty_line (lines text) ≡ true) × (length text - length (part_in text).1 ≡ k)
+pub line_end : (text : List ℕ) (k : ℕ) → up_to_empty_line text ≡ Some k → (list_any is_empty_line (lines text) ≡ true)
+    × (length text - length (part_in text).1 ≡ k)
 line_end text k h =
     elim (cases_Bool (list_any is_empty_line (lines text))) [
       | inl t ↦ let e : Some (length text - length (part_in text).1) ≡ Some k = rw t at h in (t, cc)

@@ -49,7 +49,8 @@ trailer_once text rest other x y = let same : x.0 ≡ y.0 = some_once (sym x.1 �
 abbrev pub IsLast : List ℕ → ℕ → Type 0
 IsLast at n = (chunk after : List ℕ) → HasChunk at chunk after → n + length chunk ≤ 1048576 → ⊥
 
-chunks_once : (cs ds : List (List ℕ)) (text at bt : List ℕ) (n : ℕ) → HasChunks cs text at → HasChunks ds text bt → n + length (concat cs) ≤ 1048576 → n + length (concat ds) ≤ 1048576
+chunks_once : (cs ds : List (List ℕ)) (text at bt : List ℕ) (n : ℕ) → HasChunks cs text at → HasChunks ds text bt → n + length (concat cs) ≤ 1048576
+    → n + length (concat ds) ≤ 1048576
     → IsLast at (n + length (concat cs)) → IsLast bt (n + length (concat ds)) → (cs ≡ ds) × (at ≡ bt)
 chunks_once [] [] text at bt n x y few less ends stops = (refl, sym x ∙ y)
 chunks_once [] (d ∷ ds) text at bt n x y few less ends stops =
@@ -65,7 +66,8 @@ chunks_once (c ∷ cs) (d ∷ ds) text at bt n x y few less ends stops =
     (omega (arith, here, few)) (omega (arith, there, less)) (subst (IsLast at) (sym here) ends) (subst (IsLast bt) (sym there) stops) in
     (rw first.0 (ap (λ (t : List (List ℕ)). d ∷ t) more.0), more.1)
 
-pub place_once : (text at bt bytes other : List ℕ) → IsBehind text at bytes → IsBehind text bt other → IsLast at (length bytes) → IsLast bt (length other) → (at ≡ bt) × (bytes ≡ other)
+pub place_once : (text at bt bytes other : List ℕ) → IsBehind text at bytes → IsBehind text bt other → IsLast at (length bytes) → IsLast bt (length other)
+    → (at ≡ bt) × (bytes ≡ other)
 place_once text at bt bytes other x y ends stops =
     let same = chunks_once x.chunks y.chunks text at bt 0 x.all y.all (omega (arith, ap length x.joined, x.short)) (omega (arith, ap length y.joined, y.short))
     (λ chunk after c few. ends chunk after c (omega (arith, few, ap length x.joined))) (λ chunk after c few. stops chunk after c (omega (arith, few, ap length y.joined))) in
@@ -86,7 +88,8 @@ last_short at after n size line short chunk rest c few =
     omega (arith, same.0, short, ap length same.1, ap length c.follows, length-append chunk (13 ∷ 10 ∷ rest))
 
 -- behind the bytes of the chunk no line end stands
-last_unended : (at part after rest : List ℕ) (n : ℕ) → HasLine at (length part) after → after ≡ part ++ rest → ((tail : List ℕ) → rest ≡ 13 ∷ 10 ∷ tail → ⊥) → IsLast at n
+last_unended : (at part after rest : List ℕ) (n : ℕ) → HasLine at (length part) after → after ≡ part ++ rest → ((tail : List ℕ) → rest ≡ 13 ∷ 10 ∷ tail → ⊥)
+    → IsLast at n
 last_unended at part after rest n line follows never chunk tail c few =
     let same = line_once at after c.behind (length part) (length chunk) line c.line in
     let both = front_once part chunk rest (13 ∷ 10 ∷ tail) same.0 (sym follows ∙ same.1 ∙ c.follows) in
@@ -248,7 +251,8 @@ bad_of_end text at bytes chunk after rest behind line some fits follows never (i
     let place = same text (bad text (bad_end at bytes chunk after rest behind line some fits follows never)) (undecided text (in_trailer bt other trailer stands says none may)) in
     omega (arith, some, (line_once bt after trailer (length chunk) 0 (subst (λ (t : List ℕ). HasLine t (length chunk) after) place.0 line) says).0)
 
-bad_of_trailer : (text at bytes trailer : List ℕ) (behind : IsBehind text at bytes) (line : HasLine at 0 trailer) (never : NeverHasTrailer trailer) → IsOpenChunked text → ⊥
+bad_of_trailer : (text at bytes trailer : List ℕ) (behind : IsBehind text at bytes) (line : HasLine at 0 trailer) (never : NeverHasTrailer trailer)
+    → IsOpenChunked text → ⊥
 bad_of_trailer text at bytes trailer behind line never (in_line bt other stands none may) =
     let place = same text (bad text (bad_trailer at bytes trailer behind line never)) (undecided text (in_line bt other stands none may)) in
     none 0 trailer (subst (λ (t : List ℕ). HasLine t 0 trailer) place.0 line)

@@ -22,7 +22,8 @@ other_line : (c : ℕ) (line : List ℕ) → eqb c 10 ≡ false → eqb c 13 ≡
 other_line c line f g = rw (f, g) refl
 
 first_other : (c : ℕ) (ls : List (List ℕ)) → eqb c 10 ≡ false → eqb c 13 ≡ false
-    → (list_any is_empty_line (onto_first c ls) ≡ list_any is_empty_line (drop 1 ls)) × ((cut_at_empty_line (onto_first c ls)).1 ≡ (cut_at_empty_line (drop 1 ls)).1)
+    → (list_any is_empty_line (onto_first c ls) ≡ list_any is_empty_line (drop 1 ls))
+    × ((cut_at_empty_line (onto_first c ls)).1 ≡ (cut_at_empty_line (drop 1 ls)).1)
 first_other c [] f g = rw (other_line c [] f g) (refl, refl)
 first_other c (line ∷ ls) f g = rw (other_line c line f g) (refl, refl)
 
@@ -78,7 +79,8 @@ no_line p h =
     ]
 
 -- where no empty line ended before, one byte more ends one, or none
-pub ends_here : (p : List ℕ) (b : ℕ) → up_to_empty_line p ≡ None → (eqb b 10 && may_end (line_in Nothing p)) ≡ true → up_to_empty_line (p ++ b ∷ []) ≡ Some (length p + 1)
+pub ends_here : (p : List ℕ) (b : ℕ) → up_to_empty_line p ≡ None → (eqb b 10 && may_end (line_in Nothing p)) ≡ true
+    → up_to_empty_line (p ++ b ∷ []) ≡ Some (length p + 1)
 ends_here p b none t =
     let e = ends Nothing p b (no_line p none) in
     let n : length (p ++ b ∷ []) - length (part_in (p ++ b ∷ [])).1 ≡ length p + 1 = omega (arith, length-append p (b ∷ []), ap length e.1) in

@@ -20,7 +20,8 @@ ended_once : (came more : List ℕ) (n : ℕ) → up_to_empty_line (came ++ more
 ended_once came more n e short =
     (more, drop n (came ++ more), (n, ap up_to_empty_line (take_all 16384 (came ++ more) (omega (arith, short, length-append came more))) ∙ e, refl))
 
-pub trailer_may : (came : List ℕ) (line : LineSoFar) → up_to_empty_line came ≡ None → line_in Nothing came ≡ line → length came + missing_of line ≤ 16384 → MayHaveTrailer came
+pub trailer_may : (came : List ℕ) (line : LineSoFar) → up_to_empty_line came ≡ None → line_in Nothing came ≡ line → length came + missing_of line ≤ 16384
+    → MayHaveTrailer came
 trailer_may came Nothing none at short = ended_once came (10 ∷ []) (length came + 1) (ends_here came 10 none (ap may_end at)) short
 trailer_may came Return none at short = ended_once came (10 ∷ []) (length came + 1) (ends_here came 10 none (ap may_end at)) short
 trailer_may came Text none at short =
@@ -46,19 +47,22 @@ byte_none t b none at =
       | inr f ↦ ends_nowhere t b none (rw f refl)
     ]
 
-two_missing : (t : List ℕ) (line : LineSoFar) → line_in Nothing t ≡ line → 16384 < length t + missing_of line → length t < 16384 → (line_in Nothing t ≡ Text) × (length t ≡ 16383)
+two_missing : (t : List ℕ) (line : LineSoFar) → line_in Nothing t ≡ line → 16384 < length t + missing_of line → length t < 16384 → (line_in Nothing t ≡ Text)
+    × (length t ≡ 16383)
 two_missing t Nothing at long short = absurd (omega (arith, long, short))
 two_missing t Return at long short = absurd (omega (arith, long, short))
 two_missing t Text at long short = (at, omega (arith, long, short))
 
-byte_short : (t more : List ℕ) → line_in Nothing t ≡ Text → length t ≡ 16383 → up_to_empty_line t ≡ None → (n : ℕ) → up_to_empty_line (take 16384 (t ++ more)) ≡ Some n → ⊥
+byte_short : (t more : List ℕ) → line_in Nothing t ≡ Text → length t ≡ 16383 → up_to_empty_line t ≡ None → (n : ℕ)
+    → up_to_empty_line (take 16384 (t ++ more)) ≡ Some n → ⊥
 byte_short t [] at size none n end = front_none 16384 t none (ap (λ (u : List ℕ). up_to_empty_line (take 16384 u)) (sym (append-nil t)) ∙ end)
 byte_short t (b ∷ more) at size none n end =
     let full : 16384 ≡ length t + 1 = omega (arith, size) in
     let same : take 16384 (t ++ b ∷ more) ≡ t ++ b ∷ [] = ap (λ (k : ℕ). take k (t ++ b ∷ more)) full ∙ take-append-add t (b ∷ more) 1 in
     no_line_twice (t ++ b ∷ []) (ap up_to_empty_line (sym same) ∙ end) (byte_none t b none at)
 
-pub trailer_never : (t : List ℕ) (line : LineSoFar) → up_to_empty_line t ≡ None → line_in Nothing t ≡ line → 16384 < length t + missing_of line → NeverHasTrailer t
+pub trailer_never : (t : List ℕ) (line : LineSoFar) → up_to_empty_line t ≡ None → line_in Nothing t ≡ line → 16384 < length t + missing_of line
+    → NeverHasTrailer t
 trailer_never t line none at long more rest h =
     elim (cases_lt (length t) 16384) [
       | inr past ↦ front_none 16384 t none (ap up_to_empty_line (sym (take-append-le 16384 t more past)) ∙ h.1)

@@ -34,8 +34,10 @@ pub enum MissingBody {
 /// Takes what is there of so many bytes that are missing.
 fn feed_length(missing: &mut usize, bytes: &[u8], body: &mut Pieces) -> Result<BodyPiece, Memory>
     ensures within { IfOk result (BodyWithin (length bytes.now)) }
-    ensures fed { IfOk result (λ f. (size : ℕ) (text : List ℕ) → HoldsBody (missing_body.Length missing.old) (framing.Length size) body.old text bytes.now
-        → FeedsBody (missing_body.Length missing.old) (missing_body.Length missing.new) (framing.Length size) body.new text bytes.now f) }
+    ensures fed { IfOk result (λ f. (size : ℕ) (text : List ℕ)
+        → HoldsBody (missing_body.Length missing.old) (framing.Length size) body.old text bytes.now
+        → FeedsBody (missing_body.Length missing.old) (missing_body.Length missing.new) (framing.Length size) body.new
+        text bytes.now f) }
 {
     let used = min(*missing, bytes.len());
     body.append(&bytes[..used])?;
@@ -62,7 +64,8 @@ impl MissingBody {
     /// is taken; behind a fault or Memory nothing more is to be given. Memory means that memory for the body wasn't there.
     pub fn feed(&mut self, bytes: &[u8], body: &mut Pieces) -> Result<BodyPiece, Memory>
         ensures within { IfOk result (BodyWithin (length bytes.now)) }
-        ensures fed { IfOk result (λ f. (framing : Framing) (text : List ℕ) → HoldsBody self.old framing body.old text bytes.now
+        ensures fed { IfOk result (λ f. (framing : Framing) (text : List ℕ)
+            → HoldsBody self.old framing body.old text bytes.now
             → FeedsBody self.old self.new framing body.new text bytes.now f) }
     {
         match self {

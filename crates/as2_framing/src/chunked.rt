@@ -94,7 +94,8 @@ impl ChunkedBody {
     fn find_line(&mut self, rest: &[u8]) -> Result<LineRead, AllocError>
         ensures place { self.new.place ≡ self.old.place }
         ensures within { IfOk result (LineWithin (length rest.now)) }
-        ensures found { IfOk result (λ r. (body text : List ℕ) → HoldsLine self.old.line.items body text rest.now → FindsLine self.new.line.items body text rest.now r) }
+        ensures found { IfOk result (λ r. (body text : List ℕ) → HoldsLine self.old.line.items body text rest.now
+            → FindsLine self.new.line.items body text rest.now r) }
     {
         let mut text = mem::replace(&mut self.line, Vec::new(self.alloc));
         let kept = text.len();
@@ -113,7 +114,8 @@ impl ChunkedBody {
         requires place { self.old.place ≡ ChunkPlace.Line }
         requires some { 0 < length rest.now }
         ensures within { IfOk result (StepWithin (length rest.now)) }
-        ensures taken { IfOk result (λ s. (body text : List ℕ) → length body ≡ came → HoldsLine self.old.line.items body text rest.now → StepsTo self.new body text rest.now s) }
+        ensures taken { IfOk result (λ s. (body text : List ℕ) → length body ≡ came
+            → HoldsLine self.old.line.items body text rest.now → StepsTo self.new body text rest.now s) }
     {
         match self.find_line(rest)? {
             LineRead::Open => Ok(ChunkStep::On(rest.len())),
@@ -138,7 +140,9 @@ impl ChunkedBody {
         requires missing { 0 < missing }
         requires some { 0 < length rest.now }
         ensures within { IfOk result (StepWithin (length rest.now)) }
-        ensures taken { IfOk result (λ s. (text : List ℕ) → HoldsAt (ChunkPlace.Bytes missing) self.old.line.items body.old text rest.now → StepsTo self.new body.new text rest.now s) }
+        ensures taken { IfOk result (λ s. (text : List ℕ)
+            → HoldsAt (ChunkPlace.Bytes missing) self.old.line.items body.old text rest.now
+            → StepsTo self.new body.new text rest.now s) }
     {
         let used = min(missing, rest.len());
         body.append(&rest[..used])?;
@@ -154,7 +158,8 @@ impl ChunkedBody {
     fn take_return(&mut self, rest: &[u8]) -> ChunkStep
         requires some { 0 < length rest.now }
         ensures within { StepWithin (length rest.now) result }
-        ensures taken { (body text : List ℕ) → HoldsAt ChunkPlace.Behind self.old.line.items body text rest.now → StepsTo self.new body text rest.now result }
+        ensures taken { (body text : List ℕ) → HoldsAt ChunkPlace.Behind self.old.line.items body text rest.now
+            → StepsTo self.new body text rest.now result }
     {
         if rest[0] != b'\r' {
             return ChunkStep::Bad;
@@ -167,7 +172,8 @@ impl ChunkedBody {
     fn take_feed(&mut self, rest: &[u8]) -> ChunkStep
         requires some { 0 < length rest.now }
         ensures within { StepWithin (length rest.now) result }
-        ensures taken { (body text : List ℕ) → HoldsAt ChunkPlace.Return self.old.line.items body text rest.now → StepsTo self.new body text rest.now result }
+        ensures taken { (body text : List ℕ) → HoldsAt ChunkPlace.Return self.old.line.items body text rest.now
+            → StepsTo self.new body text rest.now result }
     {
         if rest[0] != b'\n' {
             return ChunkStep::Bad;
@@ -180,7 +186,9 @@ impl ChunkedBody {
     fn take_trailer(&mut self, count: usize, line: LineSoFar, rest: &[u8]) -> ChunkStep
         requires some { 0 < length rest.now }
         ensures within { StepWithin (length rest.now) result }
-        ensures taken { (body text : List ℕ) → HoldsAt (ChunkPlace.Trailer count line) self.old.line.items body text rest.now → StepsTo self.new body text rest.now result }
+        ensures taken { (body text : List ℕ)
+            → HoldsAt (ChunkPlace.Trailer count line) self.old.line.items body text rest.now
+            → StepsTo self.new body text rest.now result }
     {
         let room = TRAILER_LIMIT.saturating_sub(count);
         let front = first(rest, room);
@@ -200,7 +208,8 @@ impl ChunkedBody {
     fn step(&mut self, rest: &[u8], body: &mut Pieces) -> Result<ChunkStep, Memory>
         requires some { 0 < length rest.now }
         ensures within { IfOk result (StepWithin (length rest.now)) }
-        ensures taken { IfOk result (λ s. (text : List ℕ) → HoldsChunked self.old body.old text rest.now → StepsTo self.new body.new text rest.now s) }
+        ensures taken { IfOk result (λ s. (text : List ℕ) → HoldsChunked self.old body.old text rest.now
+            → StepsTo self.new body.new text rest.now s) }
     {
         match self.place {
             ChunkPlace::Line => Ok(self.take_line(rest, body.len())?),
@@ -216,7 +225,8 @@ impl ChunkedBody {
     /// given. Memory means that memory for the body wasn't there.
     pub fn feed(&mut self, bytes: &[u8], body: &mut Pieces) -> Result<BodyPiece, Memory>
         ensures within { IfOk result (BodyWithin (length bytes.now)) }
-        ensures fed { IfOk result (λ f. (text : List ℕ) → HoldsChunked self.old body.old text bytes.now → Feeds self.new body.new text bytes.now f) }
+        ensures fed { IfOk result (λ f. (text : List ℕ) → HoldsChunked self.old body.old text bytes.now
+            → Feeds self.new body.new text bytes.now f) }
     {
         let mut rest = bytes;
         while !rest.is_empty() {

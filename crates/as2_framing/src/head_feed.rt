@@ -47,7 +47,8 @@ impl HeadBytes {
     fn add(&mut self, front: &[u8]) -> Result<Option<usize>, AllocError>
         requires room { self.old.skipped + vec_len self.old.text + length front.now ≤ head_limit }
         ensures within { IfOk result (λ end. IfSome end (λ n. n ≤ length front.now)) }
-        ensures added { IfOk result (λ end. (text : List ℕ) → HoldsText self.old text → Adds self.new text front.now end) }
+        ensures added { IfOk result (λ end. (text : List ℕ) → HoldsText self.old text
+            → Adds self.new text front.now end) }
     {
         let blank = self.blank_in(front);
         let rest = &front[blank..];
@@ -78,7 +79,8 @@ impl HeadBytes {
     /// Takes a piece, each byte looked at once. What comes behind the end of the head isn't kept.
     pub fn feed(&mut self, bytes: &[u8]) -> Result<HeadPiece, AllocError>
         ensures within { IfOk result (PieceWithin (length bytes.now)) }
-        ensures fed { IfOk result (λ piece. (text : List ℕ) → HoldsHead self.old text → FeedsHead self.new text bytes.now piece) }
+        ensures fed { IfOk result (λ piece. (text : List ℕ) → HoldsHead self.old text
+            → FeedsHead self.new text bytes.now piece) }
     {
         let room = HEAD_LIMIT - self.skipped - self.text.len();
         match self.add(first(bytes, room))? {

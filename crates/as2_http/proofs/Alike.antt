@@ -79,7 +79,8 @@ none_more : (A : AgreedValues) (moment : ℕ) (s t : State) (text replies rest :
     → AnswersAll A moment s text more t replies rest → (t ≡ s) × (replies ≡ []) × (rest ≡ text)
 none_more A moment s t text replies rest more none a = subst (λ (d : List RequestAndResponse). AnswersAll A moment s text d t replies rest) none a
 
-both_none : (A : AgreedValues) (moment : ℕ) (s t u : State) (text replies same rest behind : List ℕ) (more later : List RequestAndResponse) → more ≡ [] → later ≡ []
+both_none : (A : AgreedValues) (moment : ℕ) (s t u : State) (text replies same rest behind : List ℕ) (more later : List RequestAndResponse) → more ≡ []
+    → later ≡ []
     → AnswersAll A moment s text more t replies rest → AnswersAll A moment s text later u same behind → IsOne more later t u replies same rest behind
 both_none A moment s t u text replies same rest behind more later none zero a b =
     let x = none_more A moment s t text replies rest more none a in
@@ -107,7 +108,8 @@ record First (A : AgreedValues) (moment : ℕ) (s u : State) (x y : RequestAndRe
 
 first_one : (A : AgreedValues) (moment : ℕ) (s t u : State) (text replies same rest behind : List ℕ) (x y : RequestAndResponse) (more later : List RequestAndResponse)
     → (a : AnswersAll A moment s text (x ∷ more) t replies rest)
-    → AnswersAll A moment s text (y ∷ later) u same behind → IsSoundResponse x.1 → IsSoundResponse y.1 → First A moment s u x y a.0 a.1 a.2 later text same behind
+    → AnswersAll A moment s text (y ∷ later) u same behind → IsSoundResponse x.1 → IsSoundResponse y.1
+    → First A moment s u x y a.0 a.1 a.2 later text same behind
 first_one A moment s t u text replies same rest behind x y more later a b sound ok =
     let one = begins_with_one text x.0 y.0 a.2 b.2 a.4.begins b.4.begins in
     let other : Responds A moment s x.0 y.1 Unsaid b.0 = subst (λ (r : Request). Responds A moment s r y.1 Unsaid b.0) (sym one.0) b.4.responds in
@@ -124,7 +126,8 @@ first_one A moment s t u text replies same rest behind x y more later a b sound 
     }
 
 -- .. and so all
-with_first : (x y : RequestAndResponse) (more later : List RequestAndResponse) (t u : State) (reply replies same rest behind left one : List ℕ) → x ≡ y → replies ≡ reply ++ left
+with_first : (x y : RequestAndResponse) (more later : List RequestAndResponse) (t u : State) (reply replies same rest behind left one : List ℕ) → x ≡ y
+    → replies ≡ reply ++ left
     → same ≡ reply ++ one → IsOne more later t u left one rest behind
     → IsOne (x ∷ more) (y ∷ later) t u replies same rest behind
 with_first x y more later t u reply replies same rest behind left one e a b (d, state, texts, r) =

@@ -24,12 +24,14 @@ pub notes_of_both : (moment : ℕ) (done later : List RequestAndResponse) (P : L
     → P (notes moment (done ++ later))
 notes_of_both moment done later P p = subst P (sym (notes_join moment done later)) p
 
-pub says_join : (moment : ℕ) (a b c : SinkAndJournal) (x y : List ℕ) (done later : List RequestAndResponse) → WritesAndNotes a b x (notes moment done) → WritesAndNotes b c y (notes moment later)
+pub says_join : (moment : ℕ) (a b c : SinkAndJournal) (x y : List ℕ) (done later : List RequestAndResponse) → WritesAndNotes a b x (notes moment done)
+    → WritesAndNotes b c y (notes moment later)
     → WritesAndNotes a c (x ++ y) (notes moment (done ++ later))
 says_join moment a b c x y done later p q =
     notes_of_both moment done later (λ (l : List ℕ). WritesAndNotes a c (x ++ y) l) (says_trans a b c x y (notes moment done) (notes moment later) p q)
 
 -- .. of one more
-pub says_one : (moment : ℕ) (a b c : SinkAndJournal) (x y : List ℕ) (done : List RequestAndResponse) (e : RequestAndResponse) → WritesAndNotes a b x (notes moment done)
+pub says_one : (moment : ℕ) (a b c : SinkAndJournal) (x y : List ℕ) (done : List RequestAndResponse) (e : RequestAndResponse)
+    → WritesAndNotes a b x (notes moment done)
     → WritesAndNotes b c y (note moment e.0 e.1) → WritesAndNotes a c (x ++ y) (notes moment (done ++ e ∷ []))
 says_one moment a b c x y done e p q = says_join moment a b c x y done (e ∷ []) p (subst (λ (l : List ℕ). WritesAndNotes b c y l) (sym (append-nil (note moment e.0 e.1))) q)

@@ -77,7 +77,8 @@ one_runs : (A : AgreedValues) (moment : ℕ) (mid t : State) (r : Request) (x : 
 one_runs A moment mid t r x p = posts_run A moment mid t ((r, x) ∷ []) (event_then A moment mid t t r x r.method r.target [] p refl)
 
 -- .. and stands by history behind the others
-one_behind : (A : AgreedValues) (moment : ℕ) (s mid t : State) (done : List RequestAndResponse) → Run A s (stream_events moment done) mid → (r : Request) (x : Response)
+one_behind : (A : AgreedValues) (moment : ℕ) (s mid t : State) (done : List RequestAndResponse) → Run A s (stream_events moment done) mid
+    → (r : Request) (x : Response)
     → Responds A moment mid r x Unsaid t
     → EndsByHistory A s (stream_events moment (done ++ (r, x) ∷ [])) t
 unfolding runs_join posts_run one_runs
@@ -118,7 +119,8 @@ taken_on A moment s mid text left p c before after end runs a =
     (a.last, a.rests, runs_join A moment s mid a.last runs (piece_left A moment mid a.mid a.last a.done text a.replies a.rest left p before after end a.all a.ends))
 
 -- what is left, and how the stream came to it
-abbrev pub LeavesServed : {M : Medium} → AgreedValues → ℕ → State → List ℕ → Option (List ℕ) → Standing M → SinkAndJournal → SinkAndJournal → ℕ → ℕ → Served → Type 0
+abbrev pub LeavesServed : {M : Medium} → AgreedValues → ℕ → State → List ℕ → Option (List ℕ) → Standing M → SinkAndJournal → SinkAndJournal → ℕ → ℕ → Served
+    → Type 0
 LeavesServed A moment s input unread c before after calls later end = (t : State) × c.Rests t × Serves A moment s t input unread before after calls later end
 
 -- ---- what was read
@@ -310,7 +312,8 @@ next_answered A moment s input p q c d unread after before now later i j k piece
 
 -- behind the replies so far, in the state that they left
 serves_as : {M : Medium} (A : AgreedValues) (moment : ℕ) (s : State) (input : List ℕ) (p : RequestParser) (c : Standing M) (unread after : Option (List ℕ)) (before now : SinkAndJournal) (i j k : ℕ) (end : Served)
-    → (w : BetweenReads A moment s input p c unread before now i j) → StreamEnds A moment w.done w.mid w.replies (w.held ++ w.reads.left) after before now w.mid end
+    → (w : BetweenReads A moment s input p c unread before now i j)
+    → StreamEnds A moment w.done w.mid w.replies (w.held ++ w.reads.left) after before now w.mid end
     → ReadsNeeded (NeedsMore A moment s) input after i k
     → LeavesServed A moment s input after c before now i k end
 serves_as A moment s input p c unread after before now i j k end w e reads =

@@ -40,7 +40,8 @@ answers_join A moment s mid t text rest left replies more (x ∷ done) later a b
   answers_join A moment a.0 mid t a.2 rest left a.3 more done later a.6 b,
 )
 
-pub answers_one : (A : AgreedValues) (moment : ℕ) (s t : State) (text reply rest : List ℕ) (x : RequestAndResponse) → ServesRequest A moment s text x t reply rest
+pub answers_one : (A : AgreedValues) (moment : ℕ) (s t : State) (text reply rest : List ℕ) (x : RequestAndResponse)
+    → ServesRequest A moment s text x t reply rest
     → AnswersAll A moment s text (x ∷ []) t reply rest
 answers_one A moment s t text reply rest x a = (t, reply, rest, [], a, sym (append-nil reply), (refl, refl, refl))
 

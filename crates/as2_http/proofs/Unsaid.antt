@@ -11,7 +11,8 @@ use Rattle.as2_messages.specs.declared.framing.Target.TheVariants.{Station, Othe
 use Rattle.as2_http.specs.declared.response.Response.{Response}
 use Rattle.as2_http.specs.declared.response.Response.TheVariants.{Answered, Failed, OnlyPost, NoPath}
 
-takes_unsaid : (A : AgreedValues) (moment : ℕ) (s : State) (r : Request) (x : Response) (Safe : State → Type 0) (t : State) → RespondsToPost A moment s r x Safe t
+takes_unsaid : (A : AgreedValues) (moment : ℕ) (s : State) (r : Request) (x : Response) (Safe : State → Type 0) (t : State)
+    → RespondsToPost A moment s r x Safe t
     → RespondsToPost A moment s r x Unsaid t
 takes_unsaid A moment s r (Answered a) Safe t p = (p.0, λ asks. tt)
 takes_unsaid A moment s r (Failed f) Safe t p = p

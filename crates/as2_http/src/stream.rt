@@ -88,7 +88,8 @@ fn reply<K: Records, W: Sink, J: Journal>(
     ensures clean { (K.shows station.new).IsClean → (K.shows station.old).IsClean }
     ensures replied { (K.shows station.new).IsClean → (s : State) → (K.shows station.old).Rests s
         → RepliesTo agreements.now moment s request (K.shows station.new)
-        (sink_and_journal (W.written sink.old) (J.noted journal.old)) (sink_and_journal (W.written sink.new) (J.noted journal.new)) result }
+        (sink_and_journal (W.written sink.old) (J.noted journal.old))
+        (sink_and_journal (W.written sink.new) (J.noted journal.new)) result }
     ensures failed { result ≡ Err Write → W.failed sink.old < W.failed sink.new }
     ensures sound { ¬ (result ≡ Err Write) → W.failed sink.new ≡ W.failed sink.old }
     ensures once { W.failed sink.new ≤ W.failed sink.old + 1 }
@@ -120,7 +121,8 @@ fn answer_piece<K: Records, W: Sink, J: Journal>(
     ensures answered { (K.shows station.new).IsClean → (s : State) → (K.shows station.old).Rests s
         → (held left : List ℕ) → HasTaken parser.old held
         → AnswersPiece agreements.now moment s (held ++ piece.now ++ left) left parser.new (K.shows station.new)
-        (sink_and_journal (W.written sink.old) (J.noted journal.old)) (sink_and_journal (W.written sink.new) (J.noted journal.new)) result }
+        (sink_and_journal (W.written sink.old) (J.noted journal.old))
+        (sink_and_journal (W.written sink.new) (J.noted journal.new)) result }
     ensures failed { result ≡ Some WriteFault → W.failed sink.old < W.failed sink.new }
     ensures sound { ¬ (result ≡ Some WriteFault) → W.failed sink.new ≡ W.failed sink.old }
     ensures once { W.failed sink.new ≤ W.failed sink.old + 1 }
@@ -185,7 +187,8 @@ fn answer_next<K: Records, R: Source, W: Sink, J: Journal>(
     requires room { vec_len buffer.old ≡ read_limit }
     ensures clean { (K.shows station.new).IsClean → (K.shows station.old).IsClean }
     ensures calls { R.calls source.new ≡ R.calls source.old + 1 }
-    ensures answered { (K.shows station.new).IsClean → (s : State) (input : List ℕ) (before : SinkAndJournal) (calls : ℕ)
+    ensures answered { (K.shows station.new).IsClean
+        → (s : State) (input : List ℕ) (before : SinkAndJournal) (calls : ℕ)
         → BetweenReads agreements.now moment s input parser.old (K.shows station.old) (R.left source.old) before
         (sink_and_journal (W.written sink.old) (J.noted journal.old)) calls (R.calls source.old)
         → AnswersNext agreements.now moment s input parser.new (K.shows station.new) (R.left source.new) before
@@ -230,7 +233,8 @@ pub fn serve_stream<K: Records, R: Source, W: Sink, J: Journal>(
     ensures clean { (K.shows station.new).IsClean → (K.shows station.old).IsClean }
     ensures serves { (K.shows station.new).IsClean → (s : State) → (K.shows station.old).Rests s
         → (input : List ℕ) → R.left source.old ≡ Some input → (t : State) × (K.shows station.new).Rests t
-        × Serves agreements.now moment s t input (R.left source.new) (sink_and_journal (W.written sink.old) (J.noted journal.old))
+        × Serves agreements.now moment s t input (R.left source.new)
+        (sink_and_journal (W.written sink.old) (J.noted journal.old))
         (sink_and_journal (W.written sink.new) (J.noted journal.new)) (R.calls source.old) (R.calls source.new) result }
     // Whatever the reader tells, nothing but posts at this moment was taken.
     ensures posts { (K.shows station.new).IsClean → (s : State) → (K.shows station.old).Rests s

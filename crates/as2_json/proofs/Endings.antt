@@ -13,7 +13,8 @@ use Rattle.as2_json.specs.Objects.{finding_object, in_object}
 pub in_lines : (rs : List InRow) → flat_map (λ r. object_line (in_object r)) rs ≡ object_lines (map in_object rs)
 in_lines rs = sym (flat_map-map object_line in_object rs)
 
-pub marked_lines : (settled : List ℕ) (rs : List OutRow) → flat_map (λ r. object_line (marked_object settled r)) rs ≡ object_lines (map (marked_object settled) rs)
+pub marked_lines : (settled : List ℕ) (rs : List OutRow)
+    → flat_map (λ r. object_line (marked_object settled r)) rs ≡ object_lines (map (marked_object settled) rs)
 marked_lines settled rs = sym (flat_map-map object_line (marked_object settled) rs)
 
 pub ended : (fs : List Finding) (d : Data) → flat_map (λ f. object_line (finding_object f)) fs ++ object_line d ≡ object_lines (map finding_object fs ++ d ∷ [])

@@ -295,7 +295,8 @@ finding_back f n = back _ (record {
   shallow = omega arith;
 })
 
-pub verified_back : (received sent findings : ℕ) → FitsNumber received → FitsNumber sent → FitsNumber findings → ReadsBack (verified_object received sent findings)
+pub verified_back : (received sent findings : ℕ) → FitsNumber received → FitsNumber sent → FitsNumber findings
+    → ReadsBack (verified_object received sent findings)
 verified_back received sent findings r s f = back _ (record {
   known = rw (number_of-decimal findings f, number_of-decimal received r, number_of-decimal sent s);
   numerals = (IsNumber-decimal findings f, (IsNumber-decimal received r, (IsNumber-decimal sent s, tt)));

@@ -5,7 +5,7 @@ ghost use Rattle.as2_json.specs.Lines.{object_line};
 ghost use Rattle.as2_json.specs.Objects.{document_object, due_value, receipt_value};
 
 use crate::lines::add_line;
-use crate::words::{name_text, class_letter};
+use crate::words::{class_letter, name_text};
 use as2_exchange::{Evidence, OutEntry};
 use as2_text::Memory;
 use serde_json::{Value, json};

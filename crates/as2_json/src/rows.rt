@@ -5,7 +5,7 @@ ghost use Rattle.as2_json.specs.Lines.{object_line};
 ghost use Rattle.as2_json.specs.Objects.{in_object, out_object};
 
 use crate::lines::add_line;
-use crate::words::{is_processed, name_text, receipt_word, class_letter};
+use crate::words::{class_letter, is_processed, name_text, receipt_word};
 use as2_records::{InRow, OutRow};
 use as2_text::Memory;
 use serde_json::{Value, json};

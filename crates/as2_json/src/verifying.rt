@@ -19,7 +19,8 @@ use std::alloc::Global;
 
 /// Appends the objects of findings.
 fn add_findings(text: &mut Vec<u8>, findings: &[Finding]) -> Result<(), Memory>
-    ensures { OnOk result (text.new.items ≡ text.old.items ++ flat_map (λ f. object_line (finding_object f)) findings.now) }
+    ensures { OnOk result (text.new.items
+        ≡ text.old.items ++ flat_map (λ f. object_line (finding_object f)) findings.now) }
 {
     for finding in findings {
         add_finding_object(text, *finding)?;

@@ -6,7 +6,7 @@ ghost use Rattle.as2_json.specs.Words.{box_word, receipt_word};
 
 use as2_audit::Mailbox;
 use as2_exchange::ReceiptStage;
-use as2_mdn::{Outcome, DetailClass};
+use as2_mdn::{DetailClass, Outcome};
 use as2_text::AsName;
 
 /// A name as a text: its bytes are printable ASCII.

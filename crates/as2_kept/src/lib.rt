@@ -8,7 +8,7 @@ ghost use Rattle.std.specs.Prelude.{◌≡◌};
 use as2_exchange::{Evidence, InEntry, OutEntry, StoreFault};
 use as2_mdn::{Detail, DetailClass};
 use as2_records::{
-    Counts, Discrepancy, InRow, ReceiptProgress, NextNumbers, OutRow, Progress, Records,
+    Counts, Discrepancy, InRow, NextNumbers, OutRow, Progress, ReceiptProgress, Records,
 };
 use as2_store::Store;
 use as2_text::{AsName, Moment};

@@ -10,7 +10,7 @@ ghost use Rattle.as2_records.specs.Summaries.{in_summary};
 use crate::copies::copy_entry;
 use crate::due::is_due;
 use crate::rows::in_row;
-use as2_exchange::{Attempt, InEntry, ReceiptStage, Posted};
+use as2_exchange::{Attempt, InEntry, Posted, ReceiptStage};
 use as2_records::{InRow, ReceiptProgress};
 use as2_text::{AsName, Memory, Moment};
 use std::alloc::Global;
@@ -77,7 +77,8 @@ fn set(entry: &mut InEntry, progress: ReceiptProgress)
 
 /// Sets how far the receipt for the entry of this number, if there is one, has come.
 pub fn set_numbered(entries: &mut Vec<InEntry>, number: u64, progress: ReceiptProgress)
-    ensures { entries.new.items ≡ map (λ e. if e.number == number then with_receipt_progress progress e else e) entries.old.items }
+    ensures { entries.new.items
+        ≡ map (λ e. if e.number == number then with_receipt_progress progress e else e) entries.old.items }
 {
     for entry in entries.iter_mut() {
         if entry.number == number {

@@ -5,11 +5,11 @@ ghost use Rattle.as2_lists.specs.Standing.{StandsFor};
 use crate::copies::{copy_evidence, copy_found_document, copy_found_entry};
 use crate::{inbox, outbox};
 use as2_exchange::{
-    Attempt, END_OF_NUMBERS, Evidence, InEntry, ReceiptStage, OutEntry, StoreFault, is_by_receipt,
+    Attempt, END_OF_NUMBERS, Evidence, InEntry, OutEntry, ReceiptStage, StoreFault, is_by_receipt,
 };
 use as2_mdn::{Detail, DetailClass};
 use as2_records::{
-    Counts, Discrepancy, InRow, ReceiptProgress, NextNumbers, OutRow, Progress, Records,
+    Counts, Discrepancy, InRow, NextNumbers, OutRow, Progress, ReceiptProgress, Records,
 };
 use as2_text::{AsName, Moment};
 use std::alloc::Global;

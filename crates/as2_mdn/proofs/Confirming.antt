@@ -13,7 +13,8 @@ use Rattle.as2_mdn.specs.Verdicts.{mic_compared, differs, is_missing, is_unknown
 use Rattle.as2_mdn.specs.declared.detail.Detail.TheVariants.{Processed, Warning, NoMic, UnknownMic, NotProcessed, ErrorModifier, MicDiffers}
 
 -- the last line fits only where no other does
-no_other_line : (processed error modified : Bool) (found : Option Compared) → (if not processed then NotProcessed else if error then ErrorModifier else if differs found then MicDiffers else if modified then Warning else if is_missing found then NoMic else if is_unknown found then UnknownMic else Processed) ≡ Processed → (processed ≡ true) × (modified ≡ false) × (found ≡ Some Same)
+no_other_line : (processed error modified : Bool) (found : Option Compared)
+    → (if not processed then NotProcessed else if error then ErrorModifier else if differs found then MicDiffers else if modified then Warning else if is_missing found then NoMic else if is_unknown found then UnknownMic else Processed) ≡ Processed → (processed ≡ true) × (modified ≡ false) × (found ≡ Some Same)
 no_other_line false error modified found h = absurd (cc)
 no_other_line true true modified found h = absurd (cc)
 no_other_line true false true None h = absurd (cc)
@@ -30,7 +31,8 @@ nothing_there [] h = refl
 nothing_there (x ∷ xs) h = absurd (grind (arith, nat_tests))
 
 -- the MIC of a content is given
-given_so : (known : Digests) (given : Mic) (content : List ℕ) → mic_compared known given content ≡ Some Same → (field : List ℕ × List ℕ) × (given ≡ Given field) × (comparison known field content ≡ Same)
+given_so : (known : Digests) (given : Mic) (content : List ℕ) → mic_compared known given content ≡ Some Same → (field : List ℕ × List ℕ)
+    × (given ≡ Given field) × (comparison known field content ≡ Same)
 given_so known Missing content h = absurd (cc)
 given_so known Unreadable content h = absurd (cc)
 given_so known (Given field) content h = (field, refl, same_Some _ _ h)

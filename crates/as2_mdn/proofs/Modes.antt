@@ -80,7 +80,8 @@ word_has_none byte (x ∷ text) (y ∷ word) a h =
       | inr other ↦ All-cons (λ b. (b == byte) ≡ false) x text other rest
     ]
 
-either_has_none : (byte : ℕ) (text word other : List ℕ) → IsApart byte word → IsApart byte other → IsTrue (is_word text word || is_word text other) → Lacks byte text
+either_has_none : (byte : ℕ) (text word other : List ℕ) → IsApart byte word → IsApart byte other → IsTrue (is_word text word || is_word text other)
+    → Lacks byte text
 either_has_none byte text word other a b h =
     elim (or_cases (is_word text word) (is_word text other) h) [
       | inl w ↦ word_has_none byte text word a w

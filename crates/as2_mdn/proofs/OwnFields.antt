@@ -90,7 +90,8 @@ pub record ContentFeedless (out : ReceiptOut) (mic : Option ReceiptMic) : Type 0
   pub id : HasNoFeed out.original_id
   pub mic_lines : HaveNoFeed (mic_texts mic)
 
-fields_are : (out : ReceiptOut) (mic : Option ReceiptMic) → ContentFeedless out mic → fields (joined (field_texts out (mic_texts mic))) ≡ fields_with out (mic_fields mic)
+fields_are : (out : ReceiptOut) (mic : Option ReceiptMic) → ContentFeedless out mic
+    → fields (joined (field_texts out (mic_texts mic))) ≡ fields_with out (mic_fields mic)
 fields_are out mic f =
     let m = mic_texts mic in
     let d = codes " automatic-action/MDN-sent-automatically; " ++ outcome_text out.outcome in
@@ -109,7 +110,8 @@ fields_are out mic f =
 
 -- ---- the disposition
 
-disposition_is : (outcome : Outcome) → IsDisposition (raw_value (codes " automatic-action/MDN-sent-automatically; " ++ outcome_text outcome)) (disposition_of outcome)
+disposition_is : (outcome : Outcome)
+    → IsDisposition (raw_value (codes " automatic-action/MDN-sent-automatically; " ++ outcome_text outcome)) (disposition_of outcome)
 disposition_is DecryptionFailed = disposition_laws.found_by _ (Ok (disposition_of DecryptionFailed)) refl
 disposition_is DecompressionFailed = disposition_laws.found_by _ (Ok (disposition_of DecompressionFailed)) refl
 disposition_is AuthenticationFailed = disposition_laws.found_by _ (Ok (disposition_of AuthenticationFailed)) refl
@@ -141,13 +143,15 @@ text_some (b ∷ rest) some e = absurd cc
 solid_trimmed : (text : List ℕ) → IsSolid text → text ≡ trimmed_text text
 solid_trimmed text s = sym (padded_trimmed text text (record { front = []; back = []; whole = sym (append-nil text); blank_front = refl; blank_back = refl }) s)
 
-mic_read_back : (mic : ReceiptMic) → IsMicText mic.text → IsOfMicBytes mic.text → raw_value (32 ∷ mic_with_digest mic) ≡ mic.text ++ (codes ", " ++ alg_name mic.digest)
+mic_read_back : (mic : ReceiptMic) → IsMicText mic.text → IsOfMicBytes mic.text
+    → raw_value (32 ∷ mic_with_digest mic) ≡ mic.text ++ (codes ", " ++ alg_name mic.digest)
 mic_read_back mic t b =
     let text = mic.text ++ (codes ", " ++ alg_name mic.digest) in
     ap (λ (x : List ℕ). raw_value (32 ∷ x)) (append_assoc mic.text (codes ", ") (alg_name mic.digest))
     ∙ value_trimmed text (mic_solid_front mic.text (codes ", " ++ alg_name mic.digest) b t.some (name_ends mic.digest))
 
-mic_is : (mic : ReceiptMic) → IsMicText mic.text → IsOfMicBytes mic.text → IsMicField (mic.text ++ (codes ", " ++ alg_name mic.digest)) (mic.text, alg_name mic.digest)
+mic_is : (mic : ReceiptMic) → IsMicText mic.text → IsOfMicBytes mic.text
+    → IsMicField (mic.text ++ (codes ", " ++ alg_name mic.digest)) (mic.text, alg_name mic.digest)
 mic_is mic t b = record {
   before = mic.text;
   behind = 32 ∷ alg_name mic.digest;
@@ -158,22 +162,26 @@ mic_is mic t b = record {
   has_digest = name_some mic.digest;
 }
 
-mic_given : (out : ReceiptOut) (mic : Option ReceiptMic) → HasMicText mic → HasMicBytes mic → IsMic (field_values (codes "received-content-mic") (fields_with out (mic_fields mic))) (mic_in_report mic)
+mic_given : (out : ReceiptOut) (mic : Option ReceiptMic) → HasMicText mic → HasMicBytes mic
+    → IsMic (field_values (codes "received-content-mic") (fields_with out (mic_fields mic))) (mic_in_report mic)
 mic_given out None h b = refl
 mic_given out (Some mic) h b =
     inl ((mic.text, alg_name mic.digest), subst (λ (x : List ℕ). IsMicField x (mic.text, alg_name mic.digest)) (sym (mic_read_back mic h b)) (mic_is mic h b), refl)
 
 -- ---- the content
 
-one_id : (out : ReceiptOut) (mic : Option ReceiptMic) → field_values (codes "original-message-id") (fields_with out (mic_fields mic)) ≡ raw_value (32 ∷ out.original_id) ∷ []
+one_id : (out : ReceiptOut) (mic : Option ReceiptMic)
+    → field_values (codes "original-message-id") (fields_with out (mic_fields mic)) ≡ raw_value (32 ∷ out.original_id) ∷ []
 one_id out None = refl
 one_id out (Some mic) = refl
 
-one_disposition : (out : ReceiptOut) (mic : Option ReceiptMic) → field_values (codes "disposition") (fields_with out (mic_fields mic)) ≡ raw_value (codes " automatic-action/MDN-sent-automatically; " ++ outcome_text out.outcome) ∷ []
+one_disposition : (out : ReceiptOut) (mic : Option ReceiptMic)
+    → field_values (codes "disposition") (fields_with out (mic_fields mic)) ≡ raw_value (codes " automatic-action/MDN-sent-automatically; " ++ outcome_text out.outcome) ∷ []
 one_disposition out None = refl
 one_disposition out (Some mic) = refl
 
-pub notification_content : (out : ReceiptOut) (mic : Option ReceiptMic) → IsIdentifier out.original_id → HasMicText mic → HasMicBytes mic → ContentFeedless out mic
+pub notification_content : (out : ReceiptOut) (mic : Option ReceiptMic) → IsIdentifier out.original_id → HasMicText mic → HasMicBytes mic
+    → ContentFeedless out mic
     → IsNotification (joined (field_texts out (mic_texts mic))) (record { original_id = out.original_id; disposition = disposition_of out.outcome; mic = mic_in_report mic })
 notification_content out mic x h b f =
     let content = joined (field_texts out (mic_texts mic)) in

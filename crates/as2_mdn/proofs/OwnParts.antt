@@ -182,7 +182,8 @@ part_is out f =
     ∙ ap cut_at_empty_line (lines_of_joined texts (notification_feedless out f))
     ∙ (λ i. (crlf type_line, concat_crlf (field_texts out (mic_texts out.mic)) i)))
 
-pub two_parts : (out : ReceiptOut) → Feedless out → IsTwoParts (boundary_text out.number) (receipt_text out) (part_of (map crlf (first_texts out))) (notification_part out)
+pub two_parts : (out : ReceiptOut) → Feedless out
+    → IsTwoParts (boundary_text out.number) (receipt_text out) (part_of (map crlf (first_texts out))) (notification_part out)
 two_parts out f = record {
   preamble = [];
   opening = crlf (mark out.number);

@@ -46,7 +46,8 @@ again value d x =
 
 -- ---- what is read stands in the value
 
-typed_found : (text : List ℕ) (cut : Option (List ℕ × List ℕ)) → cut_at slash text ≡ cut → IsModified text (type_and_modifier text cut) ⊎ IsUnmodified text (type_and_modifier text cut)
+typed_found : (text : List ℕ) (cut : Option (List ℕ × List ℕ)) → cut_at slash text ≡ cut → IsModified text (type_and_modifier text cut)
+    ⊎ IsUnmodified text (type_and_modifier text cut)
 typed_found text None e = inr (record { whole = found_none slash text e; is_type = refl; no_modifier = refl })
 typed_found text (Some p) e = inl (record { before = p.0; behind = p.1; cut = cut_found slash text p e; is_type = refl; is_modifier = refl })
 
@@ -62,7 +63,8 @@ type_found d found h =
           (cc, some)
     ]
 
-with_mode_found : (value mode typed : List ℕ) (d p : List ℕ × List ℕ) → IsCutAt semicolon value mode typed → IsCutAt slash mode p.0 p.1 → with_mode (Some p) typed ≡ Ok d → IsDisposition value d
+with_mode_found : (value mode typed : List ℕ) (d p : List ℕ × List ℕ) → IsCutAt semicolon value mode typed → IsCutAt slash mode p.0 p.1
+    → with_mode (Some p) typed ≡ Ok d → IsDisposition value d
 with_mode_found value mode typed d p whole cut h =
     elim (cases_Bool (is_action_mode p.0 && is_sending_mode p.1)) [
       | inl good ↦
@@ -84,11 +86,13 @@ with_mode_found value mode typed d p whole cut h =
           absurd cc
     ]
 
-mode_found : (value mode typed : List ℕ) (d : List ℕ × List ℕ) (cut : Option (List ℕ × List ℕ)) → IsCutAt semicolon value mode typed → cut_at slash mode ≡ cut → with_mode cut typed ≡ Ok d → IsDisposition value d
+mode_found : (value mode typed : List ℕ) (d : List ℕ × List ℕ) (cut : Option (List ℕ × List ℕ)) → IsCutAt semicolon value mode typed → cut_at slash mode ≡ cut
+    → with_mode cut typed ≡ Ok d → IsDisposition value d
 mode_found value mode typed d None whole e h = absurd cc
 mode_found value mode typed d (Some p) whole e h = with_mode_found value mode typed d p whole (cut_found slash mode p e) h
 
-both_found : (value : List ℕ) (d : List ℕ × List ℕ) (cut : Option (List ℕ × List ℕ)) → cut_at semicolon value ≡ cut → with_both cut ≡ Ok d → IsDisposition value d
+both_found : (value : List ℕ) (d : List ℕ × List ℕ) (cut : Option (List ℕ × List ℕ)) → cut_at semicolon value ≡ cut → with_both cut ≡ Ok d
+    → IsDisposition value d
 both_found value d None e h = absurd cc
 both_found value d (Some p) e h = mode_found value p.0 p.1 d (cut_at slash p.0) (cut_found semicolon value p e) refl h
 

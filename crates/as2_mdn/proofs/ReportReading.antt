@@ -76,7 +76,8 @@ mic_again text field f =
     let digest_some : (length (trimmed_text f.behind) == 0) ≡ false = some_bytes (trimmed_text f.behind) (λ e. f.has_digest (f.digest ∙ e)) in
     rw (cut_some comma text f.before f.behind f.cut, mic_some, digest_some) (λ i. Some ((sym f.mic) i, (sym f.digest) i))
 
-both_found : (mic digest : List ℕ) (field : List ℕ × List ℕ) → mic_with_both mic digest ≡ Some field → ((length mic == 0) ≡ false) × ((length digest == 0) ≡ false) × ((mic, digest) ≡ field)
+both_found : (mic digest : List ℕ) (field : List ℕ × List ℕ) → mic_with_both mic digest ≡ Some field → ((length mic == 0) ≡ false)
+    × ((length digest == 0) ≡ false) × ((mic, digest) ≡ field)
 both_found mic digest field h =
     elim (cases_Bool (length mic == 0 || length digest == 0)) [
       | inl none ↦
@@ -88,7 +89,8 @@ both_found mic digest field h =
           (n.0, n.1, cc)
     ]
 
-mic_cut_found : (text : List ℕ) (cut : Option (List ℕ × List ℕ)) (field : List ℕ × List ℕ) → cut_at comma text ≡ cut → mic_cut cut ≡ Some field → IsMicField text field
+mic_cut_found : (text : List ℕ) (cut : Option (List ℕ × List ℕ)) (field : List ℕ × List ℕ) → cut_at comma text ≡ cut → mic_cut cut ≡ Some field
+    → IsMicField text field
 mic_cut_found text None field e h = absurd cc
 mic_cut_found text (Some cut) field e h =
     let b = both_found (trimmed_text cut.0) (trimmed_text cut.1) field h in
@@ -114,7 +116,8 @@ mic_told [] = refl
 mic_told (text ∷ []) = mic_by text (mic_field text) refl
 mic_told (first ∷ second ∷ others) = refl
 
-none_read : (text : List ℕ) (found : Option (List ℕ × List ℕ)) → mic_field text ≡ found → ((field : List ℕ × List ℕ) → IsMicField text field → ⊥) → read_mic found ≡ Unreadable
+none_read : (text : List ℕ) (found : Option (List ℕ × List ℕ)) → mic_field text ≡ found → ((field : List ℕ × List ℕ) → IsMicField text field → ⊥)
+    → read_mic found ≡ Unreadable
 none_read text (Some field) e none = absurd (none field (mic_found text field e))
 none_read text None e none = refl
 
@@ -127,10 +130,12 @@ mic_tells (text ∷ []) mic h =
     ]
 mic_tells (first ∷ second ∷ others) mic h = sym h
 
-pub given_by : (mic : Found) (value : Bor (List ℕ)) (field : List ℕ × List ℕ) → mic ≡ found_in.One value → IsMicField value.now field → Given field ≡ mic_once (once_of mic)
+pub given_by : (mic : Found) (value : Bor (List ℕ)) (field : List ℕ × List ℕ) → mic ≡ found_in.One value → IsMicField value.now field
+    → Given field ≡ mic_once (once_of mic)
 given_by mic value field e f = rw (e, mic_again value.now field f) refl
 
-pub unreadable_by : (mic : Found) (value : Bor (List ℕ)) → mic ≡ found_in.One value → ((field : List ℕ × List ℕ) → IsMicField value.now field → ⊥) → Unreadable ≡ mic_once (once_of mic)
+pub unreadable_by : (mic : Found) (value : Bor (List ℕ)) → mic ≡ found_in.One value → ((field : List ℕ × List ℕ) → IsMicField value.now field → ⊥)
+    → Unreadable ≡ mic_once (once_of mic)
 unreadable_by mic value e none = sym (ap (λ (m : Found). mic_once (once_of m)) e ∙ none_read value.now (mic_field value.now) refl none)
 
 -- ---- the identifier
@@ -219,25 +224,29 @@ record ReceiptSaid (id disposition : Once) (mic : Mic) (receipt : ReceiptRead) :
   pub read : dispositions.disposition_reading text ≡ Ok receipt.disposition
   pub mic_is : receipt.mic ≡ mic
 
-says_read : (id text : List ℕ) (mic : Mic) (receipt : ReceiptRead) (r : Result (List ℕ × List ℕ) DispositionFault) → is_identifier id ≡ true → dispositions.disposition_reading text ≡ r → with_disposition id mic r ≡ Ok receipt → ReceiptSaid (One id) (One text) mic receipt
+says_read : (id text : List ℕ) (mic : Mic) (receipt : ReceiptRead) (r : Result (List ℕ × List ℕ) DispositionFault) → is_identifier id ≡ true
+    → dispositions.disposition_reading text ≡ r → with_disposition id mic r ≡ Ok receipt → ReceiptSaid (One id) (One text) mic receipt
 says_read id text mic receipt (Ok d) good e h =
     let same : record { original_id = id; disposition = d; mic = mic } ≡ receipt = cc in
     subst (ReceiptSaid (One id) (One text) mic) same (record { one_id = refl; is_id = good; text = text; one_disposition = refl; read = e; mic_is = refl })
 says_read id text mic receipt (Err f) good e h = absurd cc
 
-says_disposed : (id : List ℕ) (disposition : Once) (mic : Mic) (receipt : ReceiptRead) → is_identifier id ≡ true → receipt_with_disposition id mic disposition ≡ Ok receipt → ReceiptSaid (One id) disposition mic receipt
+says_disposed : (id : List ℕ) (disposition : Once) (mic : Mic) (receipt : ReceiptRead) → is_identifier id ≡ true
+    → receipt_with_disposition id mic disposition ≡ Ok receipt → ReceiptSaid (One id) disposition mic receipt
 says_disposed id Absent mic receipt good h = absurd cc
 says_disposed id (One text) mic receipt good h = says_read id text mic receipt (dispositions.disposition_reading text) good refl h
 says_disposed id Twice mic receipt good h = absurd cc
 
-says_identified : (id disposition : Once) (mic : Mic) (receipt : ReceiptRead) → identified_receipt mic id disposition ≡ Ok receipt → ReceiptSaid id disposition mic receipt
+says_identified : (id disposition : Once) (mic : Mic) (receipt : ReceiptRead) → identified_receipt mic id disposition ≡ Ok receipt
+    → ReceiptSaid id disposition mic receipt
 says_identified Absent disposition mic receipt h = absurd cc
 says_identified (One id) disposition mic receipt h =
     let w = when (is_identifier id) fault.NoId (receipt_with_disposition id mic disposition) receipt h in
     says_disposed id disposition mic receipt w.0 w.1
 says_identified Twice disposition mic receipt h = absurd cc
 
-receipt_said : (id disposition : Once) (mic : Mic) (receipt : ReceiptRead) → told_receipt id disposition mic ≡ Ok receipt → ReceiptSaid id disposition mic receipt
+receipt_said : (id disposition : Once) (mic : Mic) (receipt : ReceiptRead) → told_receipt id disposition mic ≡ Ok receipt
+    → ReceiptSaid id disposition mic receipt
 receipt_said id disposition mic receipt h =
     says_identified id disposition mic receipt (unless (is_twice id || is_twice disposition) fault.Twice (identified_receipt mic id disposition) receipt h).1
 
@@ -282,7 +291,9 @@ kind_is_report kind.Compressed h = absurd cc
 kind_is_report kind.Signed h = absurd cc
 kind_is_report kind.Report h = refl
 
-two_found : (media : Media) (body : List ℕ) (receipt : ReceiptRead) (boundary : List ℕ) (r : Result (PartText × PartText) PartFault) → kind_of media ≡ kind.Report → boundary_of media ≡ Some boundary → parts.parts_reading boundary body ≡ r → second_reading r ≡ Ok receipt → IsReport media body receipt
+two_found : (media : Media) (body : List ℕ) (receipt : ReceiptRead) (boundary : List ℕ) (r : Result (PartText × PartText) PartFault)
+    → kind_of media ≡ kind.Report → boundary_of media ≡ Some boundary → parts.parts_reading boundary body ≡ r → second_reading r ≡ Ok receipt
+    → IsReport media body receipt
 two_found media body receipt boundary (Err f) k b e h = absurd cc
 two_found media body receipt boundary (Ok both) k b e h =
     let p = part_found both.1 receipt h in
@@ -297,7 +308,8 @@ two_found media body receipt boundary (Ok both) k b e h =
       content = p.content;
     }
 
-body_found : (media : Media) (body : List ℕ) (receipt : ReceiptRead) (b : Option (List ℕ)) → kind_of media ≡ kind.Report → boundary_of media ≡ b → body_reading b body ≡ Ok receipt → IsReport media body receipt
+body_found : (media : Media) (body : List ℕ) (receipt : ReceiptRead) (b : Option (List ℕ)) → kind_of media ≡ kind.Report → boundary_of media ≡ b
+    → body_reading b body ≡ Ok receipt → IsReport media body receipt
 body_found media body receipt None k e h = absurd cc
 body_found media body receipt (Some boundary) k e h = two_found media body receipt boundary (parts.parts_reading boundary body) k e refl h
 

@@ -109,7 +109,8 @@ pub record Names (name raw : List ℕ) : Type 0 where
   pub named : list_all is_field_name_byte name ≡ true
   pub whole : HasNoFeed (name ++ 58 ∷ raw)
 
-pub field_line : (name raw : List ℕ) (texts : List (List ℕ)) → Names name raw → begins_with_blank (joined texts) ≡ false → fields (joined ((name ++ 58 ∷ raw) ∷ texts)) ≡ (name, trimmed_text (raw ++ 13 ∷ 10 ∷ [])) ∷ fields (joined texts)
+pub field_line : (name raw : List ℕ) (texts : List (List ℕ)) → Names name raw → begins_with_blank (joined texts) ≡ false
+    → fields (joined ((name ++ 58 ∷ raw) ∷ texts)) ≡ (name, trimmed_text (raw ++ 13 ∷ 10 ∷ [])) ∷ fields (joined texts)
 field_line name raw texts n free =
     let text = name ++ 58 ∷ raw in
     let whole : (text ++ 13 ∷ []) ++ 10 ∷ [] ≡ name ++ 58 ∷ (raw ++ 13 ∷ 10 ∷ []) = append_assoc text (13 ∷ []) (10 ∷ []) ∙ append_assoc name (58 ∷ raw) (13 ∷ 10 ∷ []) in

@@ -122,7 +122,8 @@ printable_append [] b h = (and_parts (is_printable b) true h).0
 printable_append (x ∷ front) b h = printable_append front b (and_parts (is_printable x) (list_all is_printable (front ++ b ∷ [])) h).1
 
 -- a text whose last byte is no blank, read from behind
-ends_back : (text turned : List ℕ) → reverse text ≡ turned → list_all is_printable text ≡ true → (text ≡ [] → ⊥) → length turned ≤ length (skip_blanks turned) → IsUnpadded text
+ends_back : (text turned : List ℕ) → reverse text ≡ turned → list_all is_printable text ≡ true → (text ≡ [] → ⊥) → length turned ≤ length (skip_blanks turned)
+    → IsUnpadded text
 ends_back text [] e printable some le = absurd (some (sym (reverse-reverse text) ∙ ap reverse e))
 ends_back text (x ∷ turned) e printable some le =
     let whole : text ≡ reverse turned ++ x ∷ [] = sym (reverse-reverse text) ∙ ap reverse e ∙ reverse-append (x ∷ []) turned in

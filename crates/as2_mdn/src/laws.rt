@@ -16,5 +16,6 @@ pub fn own_receipt()
 /// The verdict is success exactly where the receipt confirms the content: it says `processed` without modifier, and gives
 /// the content's own MIC (RFC 8098, section 3.2.6; RFC 4130, section 7.5).
 pub fn success_confirms()
-    ensures { (known : Digests) (receipt : ReceiptRead) (content : List ℕ) → (verdict_of known receipt content ≡ Processed) ↔ Confirms known receipt content }
+    ensures { (known : Digests) (receipt : ReceiptRead) (content : List ℕ)
+        → (verdict_of known receipt content ≡ Processed) ↔ Confirms known receipt content }
 {}

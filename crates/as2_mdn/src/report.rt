@@ -113,7 +113,11 @@ fn mic_value(alloc: Global, mic: ReceiptMic) -> Result<Vec<u8>, AllocError>
 }
 
 /// Appends the line of a MIC, where there is one.
-fn add_mic_line(alloc: Global, text: &mut Vec<u8>, mic: Option<ReceiptMic>) -> Result<(), AllocError>
+fn add_mic_line(
+    alloc: Global,
+    text: &mut Vec<u8>,
+    mic: Option<ReceiptMic>,
+) -> Result<(), AllocError>
     ensures added { OnOk result (text.new.items ≡ text.old.items ++ mic_line mic) }
     ensures mic { OnOk result (HasMicText mic) }
 {

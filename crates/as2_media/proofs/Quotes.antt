@@ -39,7 +39,8 @@ last_byte text c two last =
     drop_split text 1 (n - 1) (omega (arith, two))
     ∙ ap (λ (x : List ℕ). slice_range text 1 (n - 1) ++ x) (drop_more text (n - 1) 0 (omega (arith, two)) ∙ rw (last, end) refl)
 
-quotes_again : (b : ℕ) (rest value : List ℕ) → is_enclosed (b ∷ rest) ≡ true → slice_range (b ∷ rest) 1 (length (b ∷ rest) - 1) ≡ value → b ∷ rest ≡ in_quotes value
+quotes_again : (b : ℕ) (rest value : List ℕ) → is_enclosed (b ∷ rest) ≡ true → slice_range (b ∷ rest) 1 (length (b ∷ rest) - 1) ≡ value
+    → b ∷ rest ≡ in_quotes value
 quotes_again b rest value h e =
     let p = and_parts (nat_le 2 (length (b ∷ rest)) && b == quote) (get_or (b ∷ rest) (length (b ∷ rest) - 1) 0 == quote) h in
     let q = and_parts (nat_le 2 (length (b ∷ rest))) (b == quote) p.0 in

@@ -54,7 +54,8 @@ some_trimmed text p s =
     let no : equals_sign ≡ 0 = equals_stays s.left s.right (rw s.whole at all) in
     absurd cc)
 
-one_again : (room : ℕ) (text : List ℕ) (texts : List (List ℕ)) (first : List ℕ × List ℕ) (others ps : List (List ℕ × List ℕ)) → ps ≡ first ∷ others → SpellsParameter text first
+one_again : (room : ℕ) (text : List ℕ) (texts : List (List ℕ)) (first : List ℕ × List ℕ) (others ps : List (List ℕ × List ℕ)) → ps ≡ first ∷ others
+    → SpellsParameter text first
     → ((n : ℕ) → length others ≤ n → parameters n texts ≡ Ok others) → length ps ≤ room → parameters room (text ∷ texts) ≡ Ok ps
 one_again zero text texts first others ps e s again le = absurd (omega (arith, le, ap length e))
 one_again (suc room) text texts first others ps e s again le =
@@ -70,19 +71,22 @@ parameters_again room (text ∷ texts) ps s le =
 
 -- ---- the whole
 
-essence_again : (text type_name subtype : List ℕ) → IsPadded text (type_name ++ slash ∷ subtype) → is_token type_name ≡ true → is_token subtype ≡ true → essence text ≡ Ok (type_name, subtype)
+essence_again : (text type_name subtype : List ℕ) → IsPadded text (type_name ++ slash ∷ subtype) → is_token type_name ≡ true → is_token subtype ≡ true
+    → essence text ≡ Ok (type_name, subtype)
 essence_again text type_name subtype p t s =
     let inner : trimmed_text text ≡ type_name ++ slash ∷ subtype = padded_trimmed text (type_name ++ slash ∷ subtype) p (tokens_solid type_name slash subtype t (token_solid subtype s)) in
     let free = token_free slash type_name refl t in
     rw (inner, cut_free slash type_name subtype free, t, s) refl
 
 -- the text before the first `;`, and the segments behind it
-essence_free : (text type_name subtype : List ℕ) → IsPadded text (type_name ++ slash ∷ subtype) → is_token type_name ≡ true → is_token subtype ≡ true → is_free semicolon text ≡ true
+essence_free : (text type_name subtype : List ℕ) → IsPadded text (type_name ++ slash ∷ subtype) → is_token type_name ≡ true → is_token subtype ≡ true
+    → is_free semicolon text ≡ true
 essence_free text type_name subtype p t s =
     padded_free semicolon text (type_name ++ slash ∷ subtype) refl p
     (free_append semicolon type_name (slash ∷ subtype) (token_free semicolon type_name refl t) (token_free semicolon subtype refl s))
 
-reading_joined : (front : List ℕ) (texts : List (List ℕ)) (ps : List (List ℕ × List ℕ)) → is_free semicolon front ≡ true → Spell texts ps → media_type_reading (front ++ behind_semicolons texts) ≡ media_of (essence front) (parameters 8 texts)
+reading_joined : (front : List ℕ) (texts : List (List ℕ)) (ps : List (List ℕ × List ℕ)) → is_free semicolon front ≡ true → Spell texts ps
+    → media_type_reading (front ++ behind_semicolons texts) ≡ media_of (essence front) (parameters 8 texts)
 reading_joined front [] ps f s = ap media_type_reading (append-nil front) ∙ ap (reading_of front) (cut_nowhere semicolon front f)
 reading_joined front (text ∷ texts) ps f s =
     ap (reading_of (front ++ behind_semicolons (text ∷ texts))) (cut_free semicolon front (text ++ behind_semicolons texts) f)

@@ -24,10 +24,13 @@ not_end Outside b on = ne_eqb b 59 (on refl)
 not_end Quoted b on = refl
 not_end Escaped b on = refl
 
-pub scan_on : (place : Place) (text : List ℕ) (i : ℕ) → i < length text → (place ≡ Outside → get_or text i 0 ≡ 59 → ⊥) → Cuts (segments Outside text) (segments place) text i → Cuts (segments Outside text) (segments (next_place place (get_or text i 0))) text (i + 1)
+pub scan_on : (place : Place) (text : List ℕ) (i : ℕ) → i < length text → (place ≡ Outside → get_or text i 0 ≡ 59 → ⊥)
+    → Cuts (segments Outside text) (segments place) text i → Cuts (segments Outside text) (segments (next_place place (get_or text i 0))) text (i + 1)
 scan_on place text i lt on = cuts_on (segments Outside text) (segments place) (segments (next_place place (get_or text i 0))) text i lt (ap (segments place) (drop_more text i 0 lt) ∙ rw (not_end place (get_or text i 0) on) refl)
 
-pub scan_ends : (place : Place) (text : List ℕ) (i : ℕ) → i < length text → place ≡ Outside → get_or text i 0 ≡ 59 → Cuts (segments Outside text) (segments place) text i → segments Outside text ≡ take i text ∷ segments Outside (take (length text - (i + 1)) (drop (i + 1) text))
+pub scan_ends : (place : Place) (text : List ℕ) (i : ℕ) → i < length text → place ≡ Outside → get_or text i 0 ≡ 59
+    → Cuts (segments Outside text) (segments place) text i
+    → segments Outside text ≡ take i text ∷ segments Outside (take (length text - (i + 1)) (drop (i + 1) text))
 scan_ends place text i lt outside end seen =
     cuts_here (segments Outside text) (segments place) (segments Outside) text [] i (ap (segments place) (drop_more text i 0 lt) ∙ rw (outside, end) refl) seen
     ∙ rw (append-nil (take i text), take_rest text (i + 1)) refl
@@ -49,7 +52,8 @@ abbrev pub is_closed : Place → List ℕ → Bool
 is_closed place [] = is_outside place
 is_closed place (b ∷ rest) = not (is_end place b) && is_closed (next_place place b) rest
 
-pub closed_append : (place : Place) (front text : List ℕ) → is_closed place front ≡ true → is_closed Outside text ≡ true → is_closed place (front ++ text) ≡ true
+pub closed_append : (place : Place) (front text : List ℕ) → is_closed place front ≡ true → is_closed Outside text ≡ true
+    → is_closed place (front ++ text) ≡ true
 closed_append Outside [] text f t = t
 closed_append Quoted [] text f t = absurd cc
 closed_append Escaped [] text f t = absurd cc
@@ -57,7 +61,8 @@ closed_append place (b ∷ front) text f t =
     let p = and_parts (not (is_end place b)) (is_closed (next_place place b) front) f in
     and_from (not (is_end place b)) (is_closed (next_place place b) (front ++ text)) p.0 (closed_append (next_place place b) front text p.1 t)
 
-pub segments_closed : (place : Place) (text rest : List ℕ) → is_closed place text ≡ true → segments place (text ++ semicolon ∷ rest) ≡ text ∷ segments Outside rest
+pub segments_closed : (place : Place) (text rest : List ℕ) → is_closed place text ≡ true
+    → segments place (text ++ semicolon ∷ rest) ≡ text ∷ segments Outside rest
 segments_closed Outside [] rest h = refl
 segments_closed Quoted [] rest h = absurd cc
 segments_closed Escaped [] rest h = absurd cc
@@ -122,7 +127,8 @@ spell_closed text texts ps s =
       | inr x ↦ parameter_closed text x.0 x.3
     ]
 
-spell_behind : (text : List ℕ) (texts : List (List ℕ)) (ps : List (List ℕ × List ℕ)) → Spell (text ∷ texts) ps → (others : List (List ℕ × List ℕ)) × Spell texts others
+spell_behind : (text : List ℕ) (texts : List (List ℕ)) (ps : List (List ℕ × List ℕ)) → Spell (text ∷ texts) ps → (others : List (List ℕ × List ℕ))
+    × Spell texts others
 spell_behind text texts ps s =
     elim s [
       | inl x ↦ (ps, x.1)
@@ -130,7 +136,8 @@ spell_behind text texts ps s =
     ]
 
 -- texts that spell parameters are the segments of their joining
-pub segments_joined : (text : List ℕ) (texts : List (List ℕ)) (ps : List (List ℕ × List ℕ)) → Spell (text ∷ texts) ps → segments Outside (text ++ behind_semicolons texts) ≡ text ∷ texts
+pub segments_joined : (text : List ℕ) (texts : List (List ℕ)) (ps : List (List ℕ × List ℕ)) → Spell (text ∷ texts) ps
+    → segments Outside (text ++ behind_semicolons texts) ≡ text ∷ texts
 segments_joined text [] ps s = rw (append-nil text) (segments_last Outside text (spell_closed text [] ps s))
 segments_joined text (behind ∷ texts) ps s =
     let others = spell_behind text (behind ∷ texts) ps s in
@@ -139,7 +146,8 @@ segments_joined text (behind ∷ texts) ps s =
 
 -- ---- the segments of a text, each behind a `;`, are the text behind one
 
-front_joined : (b : ℕ) (texts : List (List ℕ)) (rest : List ℕ) → behind_semicolons texts ≡ semicolon ∷ rest → behind_semicolons (onto_first b texts) ≡ semicolon ∷ b ∷ rest
+front_joined : (b : ℕ) (texts : List (List ℕ)) (rest : List ℕ) → behind_semicolons texts ≡ semicolon ∷ rest
+    → behind_semicolons (onto_first b texts) ≡ semicolon ∷ b ∷ rest
 front_joined b [] rest h = absurd cc
 front_joined b (text ∷ texts) rest h = ap (λ (x : List ℕ). semicolon ∷ b ∷ drop 1 x) h
 

@@ -24,7 +24,8 @@ given : {A : Type 0} (test : Bool) (a : Option A) (x : A) → (if test then a el
 given true a x h = (refl, h)
 given false a x h = absurd cc
 
-value_among_found : (text value : List ℕ) (inside : Option (List ℕ)) → trimmed_text text ≡ text → between_quotes text ≡ inside → value_among inside text ≡ Some value → SpellsValue text value
+value_among_found : (text value : List ℕ) (inside : Option (List ℕ)) → trimmed_text text ≡ text → between_quotes text ≡ inside
+    → value_among inside text ≡ Some value → SpellsValue text value
 value_among_found text value (Some inner) t b h =
     let g = given (is_quoted_text false inner) (Some inner) value h in
     let e : inner ≡ value = let same : Some inner ≡ Some value = g.1 in cc in
@@ -45,7 +46,8 @@ named_found name text (Some value) p v h =
     let e : (name, value) ≡ p = cc in
     (ap (λ (x : List ℕ × List ℕ). x.0) e, v ∙ ap (λ (x : List ℕ × List ℕ). Some x.1) e)
 
-parameter_of_found : (text : List ℕ) (cut : Option (List ℕ × List ℕ)) (p : List ℕ × List ℕ) → cut_at equals_sign text ≡ cut → parameter_of cut ≡ Some p → SpellsParameter text p
+parameter_of_found : (text : List ℕ) (cut : Option (List ℕ × List ℕ)) (p : List ℕ × List ℕ) → cut_at equals_sign text ≡ cut → parameter_of cut ≡ Some p
+    → SpellsParameter text p
 parameter_of_found text None p e h = absurd cc
 parameter_of_found text (Some cut) p e h =
     let g = given (is_token (trimmed_text cut.0)) (with_name (trimmed_text cut.0) (spelled_value (trimmed_text cut.1))) p h in
@@ -116,7 +118,8 @@ tokens_found (Some cut) e h =
     ]
 
 -- the type and subtype, and the parameters
-media_found : (first : Result (List ℕ × List ℕ) TypeFault) (second : Result (List (List ℕ × List ℕ)) TypeFault) (media : Media) → media_of first second ≡ Ok media
+media_found : (first : Result (List ℕ × List ℕ) TypeFault) (second : Result (List (List ℕ × List ℕ)) TypeFault) (media : Media)
+    → media_of first second ≡ Ok media
     → (first ≡ Ok (media.type_name, media.subtype)) × (second ≡ Ok media.parameters)
 media_found (Err f) second media h = absurd cc
 media_found (Ok e) (Err f) media h = absurd cc
@@ -124,7 +127,8 @@ media_found (Ok e) (Ok ps) media h =
     let same : record { type_name = e.0; subtype = e.1; parameters = ps } ≡ media = cc in
     (ap (λ (m : Media). Ok (m.type_name, m.subtype)) same, ap (λ (m : Media). Ok m.parameters) same)
 
-found_in : (text front : List ℕ) (texts : List (List ℕ)) (media : Media) → text ≡ front ++ behind_semicolons texts → media_of (essence front) (parameters 8 texts) ≡ Ok media → IsMediaType text media
+found_in : (text front : List ℕ) (texts : List (List ℕ)) (media : Media) → text ≡ front ++ behind_semicolons texts
+    → media_of (essence front) (parameters 8 texts) ≡ Ok media → IsMediaType text media
 found_in text front texts media whole h =
     let m = media_found (essence front) (parameters 8 texts) media h in
     let t = tokens_found (cut_at slash (trimmed_text front)) (media.type_name, media.subtype) m.0 in
@@ -142,7 +146,8 @@ found_in text front texts media whole h =
       few = r.few;
     }
 
-found_of : (text : List ℕ) (cut : Option (List ℕ × List ℕ)) (media : Media) → cut_at semicolon text ≡ cut → reading_of text cut ≡ Ok media → IsMediaType text media
+found_of : (text : List ℕ) (cut : Option (List ℕ × List ℕ)) (media : Media) → cut_at semicolon text ≡ cut → reading_of text cut ≡ Ok media
+    → IsMediaType text media
 found_of text None media e h = found_in text text [] media (sym (append-nil text)) h
 found_of text (Some cut) media e h =
     found_in text cut.0 (segments Outside cut.1) media

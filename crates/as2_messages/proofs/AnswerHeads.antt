@@ -23,14 +23,16 @@ few_fields : (buf : List ℕ) (head : ResponseHead) (fields : Fields) → IsAnsw
 few_fields buf head fields h =
     omega (arith, length-map head.fields name_and_value, appended_fits [] (map name_and_value head.fields) fields (omega arith) h.1)
 
-pub not_complete : (buf : List ℕ) (headers : List HeaderSpan) (r : Result (Status ResponseSpans) Error) → FindsResponse buf 64 headers r → ((s : ResponseSpans) → r ≡ Ok (Complete s) → ⊥)
+pub not_complete : (buf : List ℕ) (headers : List HeaderSpan) (r : Result (Status ResponseSpans) Error) → FindsResponse buf 64 headers r
+    → ((s : ResponseSpans) → r ≡ Ok (Complete s) → ⊥)
     → (head : ResponseHead) (fields : Fields) → IsAnswerHead buf head fields → ⊥
 not_complete buf headers (Ok (Complete s)) f not head fields h = absurd (not s refl)
 not_complete buf headers (Ok Partial) f not head fields h = f head [] h.0 (few_fields buf head fields h)
 not_complete buf headers (Err e) f not head fields h = f head [] h.0 (few_fields buf head fields h)
 
 -- a head of another length
-pub not_shorter : (buf : List ℕ) (headers : List HeaderSpan) (r : Result (Status ResponseSpans) Error) (s : ResponseSpans) → FindsResponse buf 64 headers r → r ≡ Ok (Complete s) → (s.len ≡ length buf → ⊥)
+pub not_shorter : (buf : List ℕ) (headers : List HeaderSpan) (r : Result (Status ResponseSpans) Error) (s : ResponseSpans) → FindsResponse buf 64 headers r
+    → r ≡ Ok (Complete s) → (s.len ≡ length buf → ⊥)
     → (head : ResponseHead) (fields : Fields) → IsAnswerHead buf head fields → ⊥
 not_shorter buf headers (Ok (Complete q)) s f is other head fields h =
     let at = f head [] h.0 (few_fields buf head fields h) in
@@ -40,7 +42,8 @@ not_shorter buf headers (Ok Partial) s f is other head fields h = absurd cc
 not_shorter buf headers (Err e) s f is other head fields h = absurd cc
 
 -- a head whose fields aren't taken
-pub not_taken : (buf : List ℕ) (headers : List HeaderSpan) (r : Result (Status ResponseSpans) Error) (s : ResponseSpans) → FindsResponse buf 64 headers r → r ≡ Ok (Complete s)
+pub not_taken : (buf : List ℕ) (headers : List HeaderSpan) (r : Result (Status ResponseSpans) Error) (s : ResponseSpans) → FindsResponse buf 64 headers r
+    → r ≡ Ok (Complete s)
     → fields_behind [] (map (header_bytes buf) (take s.headers headers)) ≡ None
     → (head : ResponseHead) (fields : Fields) → IsAnswerHead buf head fields → ⊥
 not_taken buf headers (Ok (Complete q)) s f is none head fields h =
@@ -52,14 +55,17 @@ not_taken buf headers (Ok Partial) s f is none head fields h = absurd cc
 not_taken buf headers (Err e) s f is none head fields h = absurd cc
 
 -- what a head says of the text in front of which it stands
-pub judged_frames : (text bytes after : List ℕ) (j : JudgedAnswer) (end : Option BodyEnd) → HasHeadText text bytes after → JudgesAnswer bytes j → j.end ≡ end → FramesAnswer text j.status j.fields after end
+pub judged_frames : (text bytes after : List ℕ) (j : JudgedAnswer) (end : Option BodyEnd) → HasHeadText text bytes after → JudgesAnswer bytes j → j.end ≡ end
+    → FramesAnswer text j.status j.fields after end
 judged_frames text bytes after j end found q is = record { head = q.head; bytes = bytes; found = found; reads = q.reads; code = q.code; ends = sym q.ends ∙ is }
 
-pub frames_more : (text more : List ℕ) (status : ℕ) (fields : Fields) (after : List ℕ) (end : Option BodyEnd) → FramesAnswer text status fields after end → FramesAnswer (text ++ more) status fields (after ++ more) end
+pub frames_more : (text more : List ℕ) (status : ℕ) (fields : Fields) (after : List ℕ) (end : Option BodyEnd) → FramesAnswer text status fields after end
+    → FramesAnswer (text ++ more) status fields (after ++ more) end
 frames_more text more status fields after end f =
     record { head = f.head; bytes = f.bytes; found = head_append text more f.bytes after f.found; reads = f.reads; code = f.code; ends = f.ends }
 
-pub begins_more : (text more : List ℕ) (status : ℕ) (fields : Fields) (body rest : List ℕ) → BeginsAnswer text status fields body rest → BeginsAnswer (text ++ more) status fields body (rest ++ more)
+pub begins_more : (text more : List ℕ) (status : ℕ) (fields : Fields) (body rest : List ℕ) → BeginsAnswer text status fields body rest
+    → BeginsAnswer (text ++ more) status fields body (rest ++ more)
 begins_more text more status fields body rest b = record {
   after = b.after ++ more;
   how = b.how;

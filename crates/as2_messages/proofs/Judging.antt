@@ -34,14 +34,16 @@ pub few_fields : (buf : List ℕ) (head : RequestHead) (fields : Fields) → IsH
 few_fields buf head fields h =
     omega (arith, length-map head.fields name_and_value, appended_fits [] (map name_and_value head.fields) fields (omega arith) h.1)
 
-pub not_complete : (buf : List ℕ) (headers : List HeaderSpan) (r : Result (Status RequestSpans) Error) → FindsRequest buf 64 headers r → ((s : RequestSpans) → r ≡ Ok (Complete s) → ⊥)
+pub not_complete : (buf : List ℕ) (headers : List HeaderSpan) (r : Result (Status RequestSpans) Error) → FindsRequest buf 64 headers r
+    → ((s : RequestSpans) → r ≡ Ok (Complete s) → ⊥)
     → (head : RequestHead) (fields : Fields) → IsHead buf head fields → ⊥
 not_complete buf headers (Ok (Complete s)) f not head fields h = absurd (not s refl)
 not_complete buf headers (Ok Partial) f not head fields h = f head [] h.0 (few_fields buf head fields h)
 not_complete buf headers (Err e) f not head fields h = f head [] h.0 (few_fields buf head fields h)
 
 -- a head of another length
-pub not_shorter : (buf : List ℕ) (headers : List HeaderSpan) (r : Result (Status RequestSpans) Error) (s : RequestSpans) → FindsRequest buf 64 headers r → r ≡ Ok (Complete s) → (s.len ≡ length buf → ⊥)
+pub not_shorter : (buf : List ℕ) (headers : List HeaderSpan) (r : Result (Status RequestSpans) Error) (s : RequestSpans) → FindsRequest buf 64 headers r
+    → r ≡ Ok (Complete s) → (s.len ≡ length buf → ⊥)
     → (head : RequestHead) (fields : Fields) → IsHead buf head fields → ⊥
 not_shorter buf headers (Ok (Complete q)) s f is other head fields h =
     let at = f head [] h.0 (few_fields buf head fields h) in
@@ -51,7 +53,8 @@ not_shorter buf headers (Ok Partial) s f is other head fields h = absurd cc
 not_shorter buf headers (Err e) s f is other head fields h = absurd cc
 
 -- a head whose fields aren't taken
-pub not_taken : (buf : List ℕ) (headers : List HeaderSpan) (r : Result (Status RequestSpans) Error) (s : RequestSpans) → FindsRequest buf 64 headers r → r ≡ Ok (Complete s)
+pub not_taken : (buf : List ℕ) (headers : List HeaderSpan) (r : Result (Status RequestSpans) Error) (s : RequestSpans) → FindsRequest buf 64 headers r
+    → r ≡ Ok (Complete s)
     → fields_behind [] (map (header_bytes buf) (take s.headers headers)) ≡ None
     → (head : RequestHead) (fields : Fields) → IsHead buf head fields → ⊥
 not_taken buf headers (Ok (Complete q)) s f is none head fields h =

@@ -16,7 +16,8 @@ use Rattle.as2_messages.specs.declared.answer_head.BodyEnd.{BodyEnd}
 use Rattle.as2_messages.specs.declared.answer_head.BodyEnd.TheVariants.{Framing, WithInput}
 use Rattle.as2_messages.proofs.Alone.{body_not_faulty, faulty_not_open, one_head_text, there}
 
-one_head : (bytes : List ℕ) (h k : ResponseHead) (fields others : Fields) → IsAnswerHead bytes h fields → IsAnswerHead bytes k others → (h ≡ k) × (fields ≡ others)
+one_head : (bytes : List ℕ) (h k : ResponseHead) (fields others : Fields) → IsAnswerHead bytes h fields → IsAnswerHead bytes k others → (h ≡ k)
+    × (fields ≡ others)
 one_head bytes h k fields others x y =
     let same : h ≡ k = (response_unique bytes h k [] [] x.0 y.0).0 in
     let e : Some fields ≡ Some others = sym x.1 ∙ ap (λ (r : ResponseHead). fields_behind [] (map name_and_value r.fields)) same ∙ y.1 in
@@ -32,7 +33,8 @@ one_frame text s t fields others x y m n f g =
     (code, h.1, at.1, sym f.ends ∙ ap (λ (c : ℕ). body_end c f.head.minor fields) code ∙ ap (λ (r : ResponseHead). body_end t r.minor fields) h.0 ∙ ap (body_end t g.head.minor) h.1 ∙ g.ends)
 
 -- a body that has its length
-one_begun : (input : List ℕ) (s t : ℕ) (f g : Fields) (b c rest other : List ℕ) → BeginsAnswer input s f b rest → BeginsAnswer input t g c other → (s ≡ t) × (f ≡ g) × (b ≡ c)
+one_begun : (input : List ℕ) (s t : ℕ) (f g : Fields) (b c rest other : List ℕ) → BeginsAnswer input s f b rest → BeginsAnswer input t g c other → (s ≡ t)
+    × (f ≡ g) × (b ≡ c)
 one_begun input s t f g b c rest other x y =
     let e = one_frame input s t f g x.after y.after (Some (Framing x.how)) (Some (Framing y.how)) x.frames y.frames in
     let how : x.how ≡ y.how = cc e.3 in
@@ -92,7 +94,8 @@ unframed : (text : List ℕ) (s : ℕ) (f : Fields) (after : List ℕ) (end : Op
 unframed text s f after end w none = absurd (cc (sym w.found.0 ∙ none))
 
 -- bytes that are no head are the bytes of no frame
-no_frame : (text bytes after : List ℕ) → HasHeadText text bytes after → ((head : ResponseHead) (fields : Fields) → ¬ (IsAnswerHead bytes head fields)) → (s : ℕ) (f : Fields) (x : List ℕ) (end : Option BodyEnd) → FramesAnswer text s f x end → ⊥
+no_frame : (text bytes after : List ℕ) → HasHeadText text bytes after → ((head : ResponseHead) (fields : Fields) → ¬ (IsAnswerHead bytes head fields))
+    → (s : ℕ) (f : Fields) (x : List ℕ) (end : Option BodyEnd) → FramesAnswer text s f x end → ⊥
 no_frame text bytes after found never s f x end w =
     let at = one_head_text text w.bytes bytes x after w.found found in never w.head f (subst (λ (t : List ℕ). IsAnswerHead t w.head f) at.0 w.reads)
 

@@ -37,13 +37,15 @@ judged_frames text bytes after j found q = record {
   framed = ap (λ (m : Method). body_framing q.head.minor m j.fields) (sym q.method) ∙ q.framing;
 }
 
-pub judged_refused : (text bytes after : List ℕ) (j : Judged) (reason : RequestFault) (to_head : Bool) → HasHeadText text bytes after → Judges bytes j → j.framing ≡ Err reason → to_head ≡ is_head j.method
+pub judged_refused : (text bytes after : List ℕ) (j : Judged) (reason : RequestFault) (to_head : Bool) → HasHeadText text bytes after → Judges bytes j
+    → j.framing ≡ Err reason → to_head ≡ is_head j.method
     → BeginsNoRequest text (record { reason = reason; to_head = to_head })
 judged_refused text bytes after j reason to_head found q is same =
     framing q.head j.fields after (subst (λ (l : Result BodyFraming RequestFault). Frames text q.head j.fields after l) is (judged_frames text bytes after j found q)) (same ∙ ap is_head q.method)
 
 -- the bytes that were refused are those of the head
-pub head_refused : (bytes head : List ℕ) (r : Result Awaited NotAwaited) (n : NotAwaited) (refused : Refused) → IfErr r (RefusesHead bytes) → r ≡ Err n → n ≡ not_awaited.Refused refused → bytes ≡ head
+pub head_refused : (bytes head : List ℕ) (r : Result Awaited NotAwaited) (n : NotAwaited) (refused : Refused) → IfErr r (RefusesHead bytes) → r ≡ Err n
+    → n ≡ not_awaited.Refused refused → bytes ≡ head
     → (text after : List ℕ) → HasHeadText text head after → BeginsNoRequest text refused
 head_refused bytes head (Ok a) n refused h is same from text after found = absurd cc
 head_refused bytes head (Err m) n refused h is same from text after found =
@@ -57,7 +59,8 @@ head_open h text k = in_head (ap up_to_empty_line (short_window text (omega (ari
 -- ---- a body
 
 -- before any of it came
-pub judged_awaits : (text bytes after : List ℕ) (j : Judged) (a : Awaited) (how : BodyFraming) → HasHeadText text bytes after → Judges bytes j → j.framing ≡ Ok how → a.request.fields ≡ j.fields → a.request.method ≡ j.method
+pub judged_awaits : (text bytes after : List ℕ) (j : Judged) (a : Awaited) (how : BodyFraming) → HasHeadText text bytes after → Judges bytes j
+    → j.framing ≡ Ok how → a.request.fields ≡ j.fields → a.request.method ≡ j.method
     → a.request.target ≡ j.target → a.request.last ≡ j.last → a.request.body ≡ [] → HoldsBody a.missing how [] after after → Awaits a text after
 judged_awaits text bytes after j a how found q is fields method target last none held = record {
   head = q.head;
@@ -88,8 +91,10 @@ awaits_more a text more w = record {
 }
 
 -- the rest of a piece
-pub feeds_request : (old new : Awaited) (text rest : List ℕ) (f : BodyPiece) → new.request.fields ≡ old.request.fields → new.request.method ≡ old.request.method → new.request.target ≡ old.request.target → new.request.last ≡ old.request.last
-    → ((how : BodyFraming) (t : List ℕ) → HoldsBody old.missing how old.request.body t rest → FeedsBody old.missing new.missing how new.request.body t rest f) → Awaits old text rest → FeedsRequest old new text rest f
+pub feeds_request : (old new : Awaited) (text rest : List ℕ) (f : BodyPiece) → new.request.fields ≡ old.request.fields
+    → new.request.method ≡ old.request.method → new.request.target ≡ old.request.target → new.request.last ≡ old.request.last
+    → ((how : BodyFraming) (t : List ℕ) → HoldsBody old.missing how old.request.body t rest → FeedsBody old.missing new.missing how new.request.body t rest f)
+    → Awaits old text rest → FeedsRequest old new text rest f
 feeds_request old new text rest fed.Open fields method target last feeds w =
     let k = feeds w.how w.after w.holds in (
       k.0,
@@ -126,13 +131,17 @@ feeds_request old new text rest fed.TooLarge fields method target last feeds w =
     faulty_body w.head old.request.fields w.after w.how w.frames (feeds w.how w.after w.holds) (ap is_head (method ∙ w.method))
 
 -- the same of a piece behind its front
-pub fed_as : (old new : Awaited) (bytes : List ℕ) (from : ℕ) (f g : BodyPiece) → f ≡ g → ((text : List ℕ) → Awaits old text (take (length bytes - from) (drop from bytes)) → FeedsRequest old new text (take (length bytes - from) (drop from bytes)) f)
+pub fed_as : (old new : Awaited) (bytes : List ℕ) (from : ℕ) (f g : BodyPiece) → f ≡ g
+    → ((text : List ℕ) → Awaits old text (take (length bytes - from) (drop from bytes))
+    → FeedsRequest old new text (take (length bytes - from) (drop from bytes)) f)
     → (text : List ℕ) → Awaits old text (drop from bytes) → FeedsRequest old new text (drop from bytes) g
 fed_as old new bytes from f g is feeds text w =
     subst (λ (x : BodyPiece). FeedsRequest old new text (drop from bytes) x) is (subst (λ (rest : List ℕ). (t : List ℕ) → Awaits old t rest → FeedsRequest old new t rest f) (rest_of from bytes) feeds text w)
 
-pub awaited_fed : {E : Type 0} (old new : Awaited) (rest : List ℕ) (r : Result BodyPiece E) → new.request.fields ≡ old.request.fields → new.request.method ≡ old.request.method → new.request.target ≡ old.request.target → new.request.last ≡ old.request.last
-    → IfOk r (λ f. (how : BodyFraming) (t : List ℕ) → HoldsBody old.missing how old.request.body t rest → FeedsBody old.missing new.missing how new.request.body t rest f)
+pub awaited_fed : {E : Type 0} (old new : Awaited) (rest : List ℕ) (r : Result BodyPiece E) → new.request.fields ≡ old.request.fields
+    → new.request.method ≡ old.request.method → new.request.target ≡ old.request.target → new.request.last ≡ old.request.last
+    → IfOk r (λ f. (how : BodyFraming) (t : List ℕ) → HoldsBody old.missing how old.request.body t rest
+    → FeedsBody old.missing new.missing how new.request.body t rest f)
     → IfOk r (λ f. (text : List ℕ) → Awaits old text rest → FeedsRequest old new text rest f)
 awaited_fed old new rest (Ok f) fields method target last feeds = λ text w. feeds_request old new text rest f fields method target last feeds w
 awaited_fed old new rest (Err e) fields method target last feeds = tt
@@ -141,7 +150,8 @@ some_used : (m : MissingBody) (from used : ℕ) → (from ≡ 0 → IsMissing m)
 some_used m zero used missing some = omega (arith, some (missing refl))
 some_used m (suc n) used missing some = omega arith
 
-pub ends_request : (p : RequestParser) (old new : Awaited) (text bytes : List ℕ) (from used : ℕ) → p.awaited ≡ None → from ≤ length bytes → HasHead p.head old text bytes from
+pub ends_request : (p : RequestParser) (old new : Awaited) (text bytes : List ℕ) (from used : ℕ) → p.awaited ≡ None → from ≤ length bytes
+    → HasHead p.head old text bytes from
     → FeedsRequest old new (text ++ bytes) (drop from bytes) (fed.Whole used) → EndsRequest p text bytes new.request (from + used)
 ends_request p old new text bytes from used none le f whole = record {
   some = some_used old.missing from used f.some whole.0;
@@ -181,7 +191,8 @@ has_head_bytes : (text bytes after : List ℕ) → HasHeadText text bytes after 
 has_head_bytes text [] after h none = nothing_ends text h.0
 has_head_bytes text (b ∷ bytes) after h none = let e : b ∷ (bytes ++ after) ≡ [] = sym h.1 ∙ none in absurd cc
 
-pub tells_not_blank : (head : HeadBytes) (o : Option Awaited) (text : List ℕ) (b : Bool) → b ≡ is_none o → b ≡ false → HasTakenBy head o text → TellsBlank text b
+pub tells_not_blank : (head : HeadBytes) (o : Option Awaited) (text : List ℕ) (b : Bool) → b ≡ is_none o → b ≡ false → HasTakenBy head o text
+    → TellsBlank text b
 tells_not_blank head None text b is off h = let e : true ≡ false = sym is ∙ off in absurd cc
 tells_not_blank head (Some a) text b is off h = rw off (has_head_bytes text h.2.frames.bytes h.2.after h.2.frames.found)
 

@@ -61,7 +61,9 @@ fn end_by_length(fields: &Head) -> Option<BodyEnd>
 
 /// Where a body ends that has this one transfer coding, if one can be read.
 fn end_by_coding(status: u16, minor: u8, coding: &[u8], fields: &Head) -> Option<BodyEnd>
-    ensures { result ≡ end_by_coding status (coded_framing (is_chunked minor coding.now) (values (codes "content-length") fields.now)) }
+    ensures { result
+        ≡ end_by_coding status
+        (coded_framing (is_chunked minor coding.now) (values (codes "content-length") fields.now)) }
 {
     match coded_framing(minor, coding, fields) {
         Ok(_) if has_no_body(status) => Some(NO_BODY),
@@ -89,7 +91,8 @@ fn body_end(status: u16, minor: u8, fields: &Head) -> Option<BodyEnd>
 /// Parses the bytes of the head of an answer, and judges what it says.
 pub fn judge_answer(alloc: Global, text: &[u8]) -> Result<JudgedAnswer, NotJudged>
     ensures found { IfOk result (JudgesAnswer text.now) }
-    ensures none { result ≡ Err NotJudged.BadHead → (head : ResponseHead) (fields : Fields) → ¬ (IsAnswerHead text.now head fields) }
+    ensures none { result ≡ Err NotJudged.BadHead → (head : ResponseHead) (fields : Fields)
+        → ¬ (IsAnswerHead text.now head fields) }
 {
     let mut spans = [EMPTY_HEADER_SPAN; 64];
     let Ok(Status::Complete(head)) = parse_response(text, &mut spans) else {

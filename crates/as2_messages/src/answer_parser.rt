@@ -75,7 +75,9 @@ pub enum ParsedAnswer {
 
 /// Takes what is there of a body whose end the head tells.
 fn take_framed(answer: ReceivedAnswer, missing: MissingBody, bytes: &[u8]) -> Result<Taken, Memory>
-    ensures { IfOk result (λ t. (text : List ℕ) → AwaitsAnswer (record { answer = answer; missing = MissingEnd.Body missing }) text bytes.now → IsTakenAs text t) }
+    ensures { IfOk result (λ t. (text : List ℕ)
+        → AwaitsAnswer (record { answer = answer; missing = MissingEnd.Body missing }) text bytes.now
+        → IsTakenAs text t) }
 {
     let mut answer = answer;
     let mut missing = missing;
@@ -91,7 +93,8 @@ fn take_framed(answer: ReceivedAnswer, missing: MissingBody, bytes: &[u8]) -> Re
 
 /// Takes more of a body that ends with the input.
 fn take_all(answer: ReceivedAnswer, bytes: &[u8]) -> Result<Taken, Memory>
-    ensures { IfOk result (λ t. (text : List ℕ) → AwaitsAnswer (record { answer = answer; missing = MissingEnd.Input }) text bytes.now → IsTakenAs text t) }
+    ensures { IfOk result (λ t. (text : List ℕ)
+        → AwaitsAnswer (record { answer = answer; missing = MissingEnd.Input }) text bytes.now → IsTakenAs text t) }
 {
     let mut answer = answer;
     if bytes.len() > BODY_LIMIT.saturating_sub(answer.body.len()) {
@@ -139,7 +142,8 @@ impl AnswerParser {
 
     /// Takes what is there of the body of an answer.
     fn take_body(&mut self, awaited: AwaitedAnswer, bytes: &[u8]) -> Result<ParsedAnswer, Memory>
-        ensures { IfOk result (λ p. (text : List ℕ) → AwaitsAnswer awaited text bytes.now → ParsesAnswer self.new text p) }
+        ensures { IfOk result (λ p. (text : List ℕ) → AwaitsAnswer awaited text bytes.now
+            → ParsesAnswer self.new text p) }
     {
         match take(awaited, bytes)? {
             Taken::Open(awaited) => {
@@ -154,7 +158,8 @@ impl AnswerParser {
     /// Takes a whole head, which ends with the first bytes of the piece, and what is there of the body behind it.
     fn take_head(&mut self, bytes: &[u8], from: usize) -> Result<ParsedAnswer, Memory>
         requires within { from ≤ length bytes.now }
-        ensures { IfOk result (λ p. (text : List ℕ) → EndsHead self.old.head text bytes.now from → ParsesAnswer self.new (text ++ bytes.now) p) }
+        ensures { IfOk result (λ p. (text : List ℕ) → EndsHead self.old.head text bytes.now from
+            → ParsesAnswer self.new (text ++ bytes.now) p) }
     {
         let JudgedAnswer {
             status,
@@ -181,7 +186,8 @@ impl AnswerParser {
     /// whole answer, and where there is none, nothing more is to be given. Memory means that memory for the answer wasn't there,
     /// now or before: from then on nothing is taken.
     pub fn feed(&mut self, bytes: &[u8]) -> Result<ParsedAnswer, Memory>
-        ensures parses { IfOk result (λ p. (text : List ℕ) → HasKept self.old text → ParsesAnswer self.new (text ++ bytes.now) p) }
+        ensures parses { IfOk result (λ p. (text : List ℕ) → HasKept self.old text
+            → ParsesAnswer self.new (text ++ bytes.now) p) }
         ensures spent { OnErr result (IsSpent self.new) }
         ensures over { IsSpent self.old → IsErr result }
     {
@@ -205,7 +211,8 @@ impl AnswerParser {
 
     /// Takes the next piece.
     fn take_piece(&mut self, bytes: &[u8]) -> Result<ParsedAnswer, Memory>
-        ensures { IfOk result (λ p. (text : List ℕ) → HasKept self.old text → ParsesAnswer self.new (text ++ bytes.now) p) }
+        ensures { IfOk result (λ p. (text : List ℕ) → HasKept self.old text
+            → ParsesAnswer self.new (text ++ bytes.now) p) }
     {
         if let Some(awaited) = self.awaited.take() {
             return self.take_body(awaited, bytes);

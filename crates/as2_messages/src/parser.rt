@@ -78,7 +78,8 @@ impl Awaited {
     /// Takes what is there of the body.
     fn feed(&mut self, rest: &[u8]) -> Result<BodyPiece, Memory>
         ensures within { IfOk result (BodyWithin (length rest.now)) }
-        ensures fed { IfOk result (λ f. (text : List ℕ) → Awaits self.old text rest.now → FeedsRequest self.old self.new text rest.now f) }
+        ensures fed { IfOk result (λ f. (text : List ℕ) → Awaits self.old text rest.now
+            → FeedsRequest self.old self.new text rest.now f) }
     {
         self.missing.feed(rest, &mut self.request.body)
     }
@@ -120,7 +121,8 @@ impl RequestParser {
     fn take_body(&mut self, awaited: Awaited, bytes: &[u8], from: usize) -> Result<Parsed, Memory>
         requires within { from ≤ length bytes.now }
         requires none { self.old.awaited ≡ None }
-        ensures { IfOk result (λ p. (text : List ℕ) → HasHead self.old.head awaited text bytes.now from → Parses self.new text bytes.now p) }
+        ensures { IfOk result (λ p. (text : List ℕ) → HasHead self.old.head awaited text bytes.now from
+            → Parses self.new text bytes.now p) }
     {
         let mut awaited = awaited;
         match awaited.feed(&bytes[from..])? {
@@ -138,7 +140,8 @@ impl RequestParser {
     fn take_head(&mut self, bytes: &[u8], from: usize) -> Result<Parsed, Memory>
         requires within { from ≤ length bytes.now }
         requires none { self.old.awaited ≡ None }
-        ensures { IfOk result (λ p. (text : List ℕ) → EndsHead self.old.head text bytes.now from → Parses self.new text bytes.now p) }
+        ensures { IfOk result (λ p. (text : List ℕ) → EndsHead self.old.head text bytes.now from
+            → Parses self.new text bytes.now p) }
     {
         let found = read_head(self.alloc, &self.head.text);
         self.head.clear();
@@ -153,7 +156,8 @@ impl RequestParser {
     /// request the rest of the piece is to be given again, as the first of what follows; behind a refusal nothing more.
     /// Memory means that memory for the request wasn't there, now or before: from then on nothing is taken.
     pub fn feed(&mut self, bytes: &[u8]) -> Result<Parsed, Memory>
-        ensures parses { IfOk result (λ p. (text : List ℕ) → HasTaken self.old text → Parses self.new text bytes.now p) }
+        ensures parses { IfOk result (λ p. (text : List ℕ) → HasTaken self.old text
+            → Parses self.new text bytes.now p) }
         ensures spent { OnErr result (IsSpent self.new) }
         ensures over { IsSpent self.old → IsErr result }
     {

@@ -123,7 +123,8 @@ pub(crate) fn fields_of(alloc: Global, text: &[u8], spans: &[HeaderSpan]) -> Res
 /// Parses the bytes of a head, and judges what it says.
 pub fn judge(alloc: Global, text: &[u8]) -> Result<Judged, NotJudged>
     ensures found { IfOk result (Judges text.now) }
-    ensures none { result ≡ Err NotJudged.BadHead → (head : RequestHead) (fields : Fields) → ¬ (IsHead text.now head fields) }
+    ensures none { result ≡ Err NotJudged.BadHead → (head : RequestHead) (fields : Fields)
+        → ¬ (IsHead text.now head fields) }
 {
     let mut spans = [EMPTY_HEADER_SPAN; 64];
     let Ok(Status::Complete(head)) = parse_request(text, &mut spans) else {

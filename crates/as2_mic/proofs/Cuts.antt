@@ -9,7 +9,8 @@ use Rattle.as2_names.specs.Cuts.{Lacks, IsCutAt}
 use Rattle.as2_names.proofs.Cuts.{parts_cut}
 use Rattle.as2_names.specs.Blanks.{without_blanks}
 
-first_cut : (known : Digests) (text before behind : List ℕ) → IsCutAt comma text before behind → first_known_of known text ≡ or_else (alg_named known (without_blanks before)) (first_known_of known behind)
+first_cut : (known : Digests) (text before behind : List ℕ) → IsCutAt comma text before behind
+    → first_known_of known text ≡ or_else (alg_named known (without_blanks before)) (first_known_of known behind)
 first_cut known text before behind c = rw (parts_cut comma text before behind c) refl
 
 or_else_none : (first : Option Alg) → or_else first None ≡ first
@@ -19,8 +20,10 @@ or_else_none None = refl
 pub first_whole : (known : Digests) (text : List ℕ) → Lacks comma text → first_known_of known text ≡ alg_named known (without_blanks text)
 first_whole known text none = rw (slice_split_none is_comma text none) (or_else_none (alg_named known (without_blanks text)))
 
-pub first_found : (known : Digests) (text before behind : List ℕ) (alg : Alg) → IsCutAt comma text before behind → alg_named known (without_blanks before) ≡ Some alg → first_known_of known text ≡ Some alg
+pub first_found : (known : Digests) (text before behind : List ℕ) (alg : Alg) → IsCutAt comma text before behind
+    → alg_named known (without_blanks before) ≡ Some alg → first_known_of known text ≡ Some alg
 first_found known text before behind alg c e = first_cut known text before behind c ∙ ap (λ (r : Option Alg). or_else r (first_known_of known behind)) e
 
-pub first_on : (known : Digests) (text before behind : List ℕ) → IsCutAt comma text before behind → alg_named known (without_blanks before) ≡ None → first_known_of known behind ≡ first_known_of known text
+pub first_on : (known : Digests) (text before behind : List ℕ) → IsCutAt comma text before behind → alg_named known (without_blanks before) ≡ None
+    → first_known_of known behind ≡ first_known_of known text
 first_on known text before behind c e = sym (first_cut known text before behind c ∙ ap (λ (r : Option Alg). or_else r (first_known_of known behind)) e)

@@ -55,7 +55,8 @@ not_false true h = refl
 not_false false h = absurd (false≢true h)
 
 -- a piece that isn't the same tells the contents apart
-pub piece_tells : (xs ys : List ℕ) (i : ℕ) (one other : Option (Bor (List ℕ))) → bytes_of one ≡ piece_at xs i → bytes_of other ≡ piece_at ys i → true ≡ not (found_same one other) → false ≡ bytes_eq xs ys
+pub piece_tells : (xs ys : List ℕ) (i : ℕ) (one other : Option (Bor (List ℕ))) → bytes_of one ≡ piece_at xs i → bytes_of other ≡ piece_at ys i
+    → true ≡ not (found_same one other) → false ≡ bytes_eq xs ys
 piece_tells xs ys i one other is_one is_other h =
     apart xs ys (λ e. piece_apart one other (not_true (found_same one other) h) (is_one ∙ ap (λ c. piece_at c i) e ∙ sym is_other))
 
@@ -67,7 +68,9 @@ piece_is : (xs : List ℕ) (i : ℕ) → i * 65536 < length xs → piece_at xs i
 piece_is xs i lt = rw (lt-ltb (i * 65536) (length xs) lt) refl
 
 -- the fronts stay the same where the next pieces are
-pub next_same : (xs ys : List ℕ) (i : ℕ) (one other : Option (Bor (List ℕ))) → length xs ≡ length ys → i < piece_count xs → take (i * 65536) xs ≡ take (i * 65536) ys → bytes_of one ≡ piece_at xs i → bytes_of other ≡ piece_at ys i → false ≡ not (found_same one other) → take ((i + 1) * 65536) xs ≡ take ((i + 1) * 65536) ys
+pub next_same : (xs ys : List ℕ) (i : ℕ) (one other : Option (Bor (List ℕ))) → length xs ≡ length ys → i < piece_count xs
+    → take (i * 65536) xs ≡ take (i * 65536) ys → bytes_of one ≡ piece_at xs i → bytes_of other ≡ piece_at ys i → false ≡ not (found_same one other)
+    → take ((i + 1) * 65536) xs ≡ take ((i + 1) * 65536) ys
 next_same xs ys i one other lengths lt fronts is_one is_other h =
     let inside : i * 65536 < length xs = omega (arith, lt) in
     let equal = sym is_one ∙ piece_same one other (not_false (found_same one other) h) ∙ is_other in

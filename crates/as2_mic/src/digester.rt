@@ -38,7 +38,8 @@ impl Digester {
 
     /// Feeds the next piece of the content.
     pub fn update(&mut self, piece: &[u8])
-        ensures { (alg : Digest) (fed : List ℕ) → HasDigested self.old alg fed → HasDigested self.new alg (fed ++ piece.now) }
+        ensures { (alg : Digest) (fed : List ℕ) → HasDigested self.old alg fed
+            → HasDigested self.new alg (fed ++ piece.now) }
     {
         match &mut self.hasher {
             Hasher::Md5(hasher) => hasher.update(piece),

@@ -26,17 +26,20 @@ abbrev pub Cuts : List (List ℕ) → (List ℕ → List (List ℕ)) → List �
 Cuts whole cut text i = onto_front (take i text) (cut (drop i text)) ≡ whole
 
 -- the byte there goes on with the first list, and what follows may be cut in another way
-pub cuts_on : (whole : List (List ℕ)) (cut next : List ℕ → List (List ℕ)) (text : List ℕ) (i : ℕ) → i < length text → cut (drop i text) ≡ onto_first (get_or text i 0) (next (drop (i + 1) text)) → Cuts whole cut text i → Cuts whole next text (i + 1)
+pub cuts_on : (whole : List (List ℕ)) (cut next : List ℕ → List (List ℕ)) (text : List ℕ) (i : ℕ) → i < length text
+    → cut (drop i text) ≡ onto_first (get_or text i 0) (next (drop (i + 1) text)) → Cuts whole cut text i → Cuts whole next text (i + 1)
 cuts_on whole cut next text i lt here seen =
     rw (take_more text i 0 lt) (front_push (take i text) (get_or text i 0) (next (drop (i + 1) text)) ∙ ap (onto_front (take i text)) (sym here) ∙ seen)
 
 -- the first list ends there with those bytes
-pub cuts_here : (whole : List (List ℕ)) (cut next : List ℕ → List (List ℕ)) (text last : List ℕ) (i : ℕ) → cut (drop i text) ≡ last ∷ next (drop (i + 1) text) → Cuts whole cut text i → whole ≡ (take i text ++ last) ∷ next (drop (i + 1) text)
+pub cuts_here : (whole : List (List ℕ)) (cut next : List ℕ → List (List ℕ)) (text last : List ℕ) (i : ℕ) → cut (drop i text) ≡ last ∷ next (drop (i + 1) text)
+    → Cuts whole cut text i → whole ≡ (take i text ++ last) ∷ next (drop (i + 1) text)
 cuts_here whole cut next text last i here seen =
     sym seen ∙ ap (onto_front (take i text)) here ∙ front_first (take i text) last (next (drop (i + 1) text))
 
 -- all of the text is one list
-pub cuts_end : (whole : List (List ℕ)) (cut : List ℕ → List (List ℕ)) (text : List ℕ) → cut [] ≡ [] → 0 < length text → Cuts whole cut text (length text) → whole ≡ take (length text) text ∷ cut (drop (length text) text)
+pub cuts_end : (whole : List (List ℕ)) (cut : List ℕ → List (List ℕ)) (text : List ℕ) → cut [] ≡ [] → 0 < length text → Cuts whole cut text (length text)
+    → whole ≡ take (length text) text ∷ cut (drop (length text) text)
 cuts_end whole cut text nothing some seen =
     let none : drop (length text) text ≡ [] = drop_all (length text) text (omega arith) in
     let all : take (length text) text ≡ text = take_all (length text) text (omega arith) in

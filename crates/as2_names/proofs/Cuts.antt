@@ -8,7 +8,8 @@ use Rattle.std.specs.Prelude.{IfSome}
 use Rattle.std.specs.List.{slice_split}
 use Rattle.as2_names.specs.Cuts.{Lacks, IsCutAt, with_before, cut_at}
 
-pub lacks_more : (byte : ℕ) (text : List ℕ) (i : ℕ) → i < length text → Lacks byte (take i text) → (slice_index_or text i 0 ≡ byte → ⊥) → Lacks byte (take (i + 1) text)
+pub lacks_more : (byte : ℕ) (text : List ℕ) (i : ℕ) → i < length text → Lacks byte (take i text) → (slice_index_or text i 0 ≡ byte → ⊥)
+    → Lacks byte (take (i + 1) text)
 lacks_more byte text i lt before other = All-more (λ b. (b == byte) ≡ false) text i 0 lt before (ne_eqb (slice_index_or text i 0) byte other)
 
 pub lacks_all : (byte : ℕ) (text : List ℕ) (i : ℕ) → length text ≤ i → Lacks byte (take i text) → Lacks byte text
@@ -23,7 +24,8 @@ at_place byte text i lt same =
     let behind : behind_at text i ≡ drop (i + 1) text = take_all (length text - (i + 1)) (drop (i + 1) text) (omega (arith, length-drop (i + 1) text)) in
     drop_more text i 0 lt ∙ rw (same, behind) refl
 
-pub cut_here : (byte : ℕ) (text : List ℕ) (i : ℕ) → i < length text → slice_index_or text i 0 ≡ byte → Lacks byte (take i text) → IsCutAt byte text (take i text) (behind_at text i)
+pub cut_here : (byte : ℕ) (text : List ℕ) (i : ℕ) → i < length text → slice_index_or text i 0 ≡ byte → Lacks byte (take i text)
+    → IsCutAt byte text (take i text) (behind_at text i)
 cut_here byte text i lt same lacks = record {
   whole = sym (take-append-drop i text) ∙ ap (λ (x : List ℕ). take i text ++ x) (at_place byte text i lt same);
   first = lacks;
@@ -39,13 +41,16 @@ abbrev first_part : List (List ℕ) → List ℕ
 first_part [] = []
 first_part (part ∷ rest) = part
 
-pub parts_cut : (byte : ℕ) (text before behind : List ℕ) → IsCutAt byte text before behind → slice_split (λ b. b == byte) text ≡ before ∷ slice_split (λ b. b == byte) behind
+pub parts_cut : (byte : ℕ) (text before behind : List ℕ) → IsCutAt byte text before behind
+    → slice_split (λ b. b == byte) text ≡ before ∷ slice_split (λ b. b == byte) behind
 parts_cut byte text before behind c = rw c.whole (slice_split_at (λ b. b == byte) before byte behind c.first (eq-eqb byte byte refl))
 
-pub one_before : (byte : ℕ) (text before behind before' behind' : List ℕ) → IsCutAt byte text before behind → IsCutAt byte text before' behind' → before ≡ before'
+pub one_before : (byte : ℕ) (text before behind before' behind' : List ℕ) → IsCutAt byte text before behind → IsCutAt byte text before' behind'
+    → before ≡ before'
 one_before byte text before behind before' behind' c d = ap first_part (sym (parts_cut byte text before behind c) ∙ parts_cut byte text before' behind' d)
 
-pub one_behind : (byte : ℕ) (text before behind before' behind' : List ℕ) → IsCutAt byte text before behind → IsCutAt byte text before' behind' → behind ≡ behind'
+pub one_behind : (byte : ℕ) (text before behind before' behind' : List ℕ) → IsCutAt byte text before behind → IsCutAt byte text before' behind'
+    → behind ≡ behind'
 one_behind byte text before behind before' behind' c d =
     let same : before ≡ before' = one_before byte text before behind before' behind' c d in
     let whole : before ++ byte ∷ behind ≡ before' ++ byte ∷ behind' = sym c.whole ∙ d.whole in
@@ -85,7 +90,8 @@ lacks_front byte b rest other lacks (suc k) d lt = lacks k d (omega (arith, lt))
 abbrev SoundCut : ℕ → List ℕ → List ℕ × List ℕ → Type 0
 SoundCut byte text cut = IsCutAt byte text cut.0 cut.1
 
-sound_further : (byte b : ℕ) (rest : List ℕ) (r : Option (List ℕ × List ℕ)) → (b == byte) ≡ false → IfSome r (SoundCut byte rest) → IfSome (with_before (b ∷ []) r) (SoundCut byte (b ∷ rest))
+sound_further : (byte b : ℕ) (rest : List ℕ) (r : Option (List ℕ × List ℕ)) → (b == byte) ≡ false → IfSome r (SoundCut byte rest)
+    → IfSome (with_before (b ∷ []) r) (SoundCut byte (b ∷ rest))
 sound_further byte b rest None other s = s
 sound_further byte b rest (Some cut) other s = record { whole = ap (λ (x : List ℕ). b ∷ x) s.whole; first = lacks_front byte b cut.0 other s.first }
 

@@ -25,11 +25,13 @@ digits_of bs h = (and_parts _ _ h).1
 pub number_text : (bs : List ℕ) → is_number bs ≡ true → IsUtf8 bs
 number_text bs h = IsUtf8-from_ascii bs (all_ascii is_ascii_digit digit_small bs (digits_of bs h))
 
-pub parsed : {E : Type 0} (bs : List ℕ) (r : Result ℕ E) → ParsesUnsigned 64 10 bs r → is_number bs ≡ true → OkIff r ((0 < length bs) × (digits_value 10 bs < 2 ^ 64)) (digits_value 10 bs)
+pub parsed : {E : Type 0} (bs : List ℕ) (r : Result ℕ E) → ParsesUnsigned 64 10 bs r → is_number bs ≡ true
+    → OkIff r ((0 < length bs) × (digits_value 10 bs < 2 ^ 64)) (digits_value 10 bs)
 parsed bs r p h = parse_digits own 64 bs r p (digits_of bs h)
 
 -- a number that isn't parsed has no value
-pub none_parsed : {E : Type 0} (bs text : List ℕ) (r : Result ℕ E) (e : E) → text ≡ bs → ParsesUnsigned 64 10 text r → r ≡ Err e → is_number bs ≡ true → None ≡ decimal_value bs
+pub none_parsed : {E : Type 0} (bs text : List ℕ) (r : Result ℕ E) (e : E) → text ≡ bs → ParsesUnsigned 64 10 text r → r ≡ Err e → is_number bs ≡ true
+    → None ≡ decimal_value bs
 none_parsed bs text (Ok n) e same p is h = absurd cc
 none_parsed bs text (Err f) e same p is h =
     let o : ¬ ((0 < length bs) × (digits_value 10 bs < 2 ^ 64)) = parsed bs (Err f) (rw (sym same) p) h in

@@ -19,7 +19,9 @@ pub front_push : {X E : Type 0} → (met : List X) (b : X) (r : Result (List X) 
 front_push met b (Ok more) = ap Ok (append_assoc met (b ∷ []) more)
 front_push met b (Err e) = refl
 
-pub scans_unit : (text items next : List ℕ) (count : ℕ) (escaping : Bool) (b : ℕ) (rest : List ℕ) → Scans text items count escaping (b ∷ rest) → units escaping (b ∷ rest) ≡ with_front (b ∷ []) (units false rest) → is_printable b ≡ true → next ≡ take 128 (items ++ b ∷ []) → Scans text next (count + 1) false rest
+pub scans_unit : (text items next : List ℕ) (count : ℕ) (escaping : Bool) (b : ℕ) (rest : List ℕ) → Scans text items count escaping (b ∷ rest)
+    → units escaping (b ∷ rest) ≡ with_front (b ∷ []) (units false rest) → is_printable b ≡ true → next ≡ take 128 (items ++ b ∷ [])
+    → Scans text next (count + 1) false rest
 scans_unit text items next count escaping b rest s step printable e = record {
   met = s.met ++ b ∷ [];
   first = e ∙ ap (λ (x : List ℕ). take 128 (x ++ b ∷ [])) s.first ∙ take_push 128 s.met b;
@@ -31,10 +33,12 @@ scans_unit text items next count escaping b rest s step printable e = record {
 pub special_printable : (b : ℕ) → is_escaped_mark b ≡ true → is_printable b ≡ true
 special_printable b h = grind (arith, nat_tests)
 
-pub step_escaped : (escaping : Bool) (b : ℕ) (rest : List ℕ) → escaping ≡ true → is_escaped_mark b ≡ true → units escaping (b ∷ rest) ≡ with_front (b ∷ []) (units false rest)
+pub step_escaped : (escaping : Bool) (b : ℕ) (rest : List ℕ) → escaping ≡ true → is_escaped_mark b ≡ true
+    → units escaping (b ∷ rest) ≡ with_front (b ∷ []) (units false rest)
 step_escaped escaping b rest e s = rw (e, s) refl
 
-pub step_printable : (escaping : Bool) (b : ℕ) (rest : List ℕ) → escaping ≡ false → (b ≡ quote → ⊥) → (b ≡ backslash → ⊥) → is_printable b ≡ true → units escaping (b ∷ rest) ≡ with_front (b ∷ []) (units false rest)
+pub step_printable : (escaping : Bool) (b : ℕ) (rest : List ℕ) → escaping ≡ false → (b ≡ quote → ⊥) → (b ≡ backslash → ⊥) → is_printable b ≡ true
+    → units escaping (b ∷ rest) ≡ with_front (b ∷ []) (units false rest)
 step_printable escaping b rest e no_quote no_slash p =
     let q : eqb b quote ≡ false = ne_eqb b quote no_quote in
     let s : eqb b backslash ≡ false = ne_eqb b backslash no_slash in

@@ -30,7 +30,8 @@ all_text_printable (b ∷ rest) h =
 
 -- ---- steps that did not fail
 
-front_ok : (b : ℕ) (r : Result (List ℕ) NameFault) (name : List ℕ) → NameRead (with_front (b ∷ []) r) name → (more : List ℕ) × NameRead r more × (name ≡ b ∷ more)
+front_ok : (b : ℕ) (r : Result (List ℕ) NameFault) (name : List ℕ) → NameRead (with_front (b ∷ []) r) name → (more : List ℕ) × NameRead r more
+    × (name ≡ b ∷ more)
 front_ok b (Ok us) name h = (us, refl, cc)
 front_ok b (Err e) name h = absurd cc
 
@@ -38,7 +39,8 @@ guard_ok : (t : Bool) (e : NameFault) (r : Result (List ℕ) NameFault) (name : 
 guard_ok true e r name h = (refl, h)
 guard_ok false e r name h = absurd cc
 
-read_chosen : (t : Bool) (x y : Result (List ℕ) NameFault) (name : List ℕ) → NameRead (cond t x y) name → ((t ≡ true) × NameRead x name) ⊎ ((t ≡ false) × NameRead y name)
+read_chosen : (t : Bool) (x y : Result (List ℕ) NameFault) (name : List ℕ) → NameRead (cond t x y) name → ((t ≡ true) × NameRead x name)
+    ⊎ ((t ≡ false) × NameRead y name)
 read_chosen true x y name h = inl (refl, h)
 read_chosen false x y name h = inr (refl, h)
 
@@ -65,7 +67,8 @@ unquotes_special b rest more s u = record {
 plain_byte : (b : ℕ) → eqb b quote ≡ false → eqb b backslash ≡ false → is_escaped_mark b ≡ false
 plain_byte b q s = rw (q, s) refl
 
-unquotes_plain : (b : ℕ) (rest more : List ℕ) → eqb b quote ≡ false → eqb b backslash ≡ false → is_printable b ≡ true → Unquotes false rest more → Unquotes false (b ∷ rest) (b ∷ more)
+unquotes_plain : (b : ℕ) (rest more : List ℕ) → eqb b quote ≡ false → eqb b backslash ≡ false → is_printable b ≡ true → Unquotes false rest more
+    → Unquotes false (b ∷ rest) (b ∷ more)
 unquotes_plain b rest more q s p u = record {
   spelled = rw (plain_byte b q s, u.spelled) refl;
   printable = and_from (is_printable b) (list_all is_printable more) p u.printable;
@@ -180,7 +183,8 @@ pub found_by : (text : List ℕ) (r : Result (List ℕ) NameFault) → r ≡ nam
 found_by text (Ok name) e = found text name (sym e)
 found_by text (Err f) e = tt
 
-pub finish_ok : (text items : List ℕ) (count : ℕ) → Scans text items count false (quote ∷ []) → 0 < count → count ≤ 128 → NameRead (limited_name (units false text)) items
+pub finish_ok : (text items : List ℕ) (count : ℕ) → Scans text items count false (quote ∷ []) → 0 < count → count ≤ 128
+    → NameRead (limited_name (units false text)) items
 finish_ok text items count s lt le =
     let m = met_all text items count s le in
     let n = scanned_name text items count s lt le in

@@ -99,7 +99,8 @@ impl MessageId {
         // What is read is the field without blanks, and an identifier.
         ensures found { IfOk result (λ text. (text ≡ without_blanks field.now) × IsIdentifier text) }
         // A field that holds an identifier is read, or there was no memory.
-        ensures only { IsIdentifier (without_blanks field.now) → (result ≡ Ok (without_blanks field.now)) ⊎ (result ≡ Err Memory) }
+        ensures only { IsIdentifier (without_blanks field.now) → (result ≡ Ok (without_blanks field.now))
+            ⊎ (result ≡ Err Memory) }
         // Which fault it is; memory is wanting only for an identifier.
         ensures exact { OrNoMemory result (identifier_reading field.now) }
     {

@@ -15,7 +15,9 @@ behind_is (f ∷ front) (b ∷ text) =
     ]
 
 -- what `strip_prefix` says
-pub behind_stripped : (front text : List ℕ) (r : Option (Bor (List ℕ))) → MatchOption r (bytes_eq (take (length front) text) front ≡ false) (λ x. (bytes_eq (take (length front) text) front ≡ true) × (x.now ≡ drop (length front) text) × (length x.now + length front ≡ length text)) → option_map (λ rest. rest.now) r ≡ behind front text
+pub behind_stripped : (front text : List ℕ) (r : Option (Bor (List ℕ)))
+    → MatchOption r (bytes_eq (take (length front) text) front ≡ false) (λ x. (bytes_eq (take (length front) text) front ≡ true)
+    × (x.now ≡ drop (length front) text) × (length x.now + length front ≡ length text)) → option_map (λ rest. rest.now) r ≡ behind front text
 behind_stripped front text None other = sym (behind_is front text ∙ rw other refl)
 behind_stripped front text (Some x) (so, e, long) = sym (behind_is front text ∙ rw so (ap (λ (t : List ℕ). Some t) (sym e)))
 
@@ -40,7 +42,8 @@ behind_both a b front (x ∷ y ∷ text) =
       | inr other ↦ rw other refl
     ]
 
-pub both_some : (front text rest : List ℕ) (r : Option (List ℕ)) → Some rest ≡ behind (45 ∷ 45 ∷ []) text → r ≡ behind front rest → r ≡ behind (45 ∷ 45 ∷ front) text
+pub both_some : (front text rest : List ℕ) (r : Option (List ℕ)) → Some rest ≡ behind (45 ∷ 45 ∷ []) text → r ≡ behind front rest
+    → r ≡ behind (45 ∷ 45 ∷ front) text
 both_some front text rest r first second = second ∙ ap (behind_in front) first ∙ sym (behind_both 45 45 front text)
 
 pub both_none : (front text : List ℕ) → None ≡ behind (45 ∷ 45 ∷ []) text → None ≡ behind (45 ∷ 45 ∷ front) text

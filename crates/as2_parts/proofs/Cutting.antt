@@ -13,7 +13,8 @@ use Rattle.as2_parts.specs.Fields.{folded_lines, begins_with_blank}
 pub lines_on : (text : List ℕ) (i : ℕ) → i < length text → (get_or text i 0 ≡ 10 → ⊥) → Cuts (lines text) lines text i → Cuts (lines text) lines text (i + 1)
 lines_on text i lt other = cuts_on (lines text) lines lines text i lt (ap lines (drop_more text i 0 lt) ∙ rw (ne_eqb _ 10 other) refl)
 
-pub lines_cut : (text : List ℕ) (i : ℕ) → i < length text → get_or text i 0 ≡ 10 → Cuts (lines text) lines text i → lines text ≡ take (i + 1) text ∷ lines (drop (i + 1) text)
+pub lines_cut : (text : List ℕ) (i : ℕ) → i < length text → get_or text i 0 ≡ 10 → Cuts (lines text) lines text i
+    → lines text ≡ take (i + 1) text ∷ lines (drop (i + 1) text)
 lines_cut text i lt feed seen = rw (take_more text i 0 lt) (cuts_here (lines text) lines lines text (get_or text i 0 ∷ []) i (ap lines (drop_more text i 0 lt) ∙ rw (eq-eqb _ _ feed) refl) seen)
 
 -- ---- lines with those that go on with them
@@ -38,10 +39,12 @@ no_cut_before_blank text i blank =
 pub no_cut_elsewhere : (text : List ℕ) (i : ℕ) → (get_or text i 0 ≡ 10 → ⊥) → is_cut_at text i ≡ false
 no_cut_elsewhere text i other = rw (ne_eqb (get_or text i 0) 10 other) refl
 
-pub folded_on : (text : List ℕ) (i : ℕ) → i < length text → is_cut_at text i ≡ false → Cuts (folded_lines text) folded_lines text i → Cuts (folded_lines text) folded_lines text (i + 1)
+pub folded_on : (text : List ℕ) (i : ℕ) → i < length text → is_cut_at text i ≡ false → Cuts (folded_lines text) folded_lines text i
+    → Cuts (folded_lines text) folded_lines text (i + 1)
 folded_on text i lt other = cuts_on (folded_lines text) folded_lines folded_lines text i lt (ap folded_lines (drop_more text i 0 lt) ∙ rw other refl)
 
-pub folded_cut : (text : List ℕ) (i : ℕ) → i < length text → is_cut_at text i ≡ true → Cuts (folded_lines text) folded_lines text i → folded_lines text ≡ take (i + 1) text ∷ folded_lines (drop (i + 1) text)
+pub folded_cut : (text : List ℕ) (i : ℕ) → i < length text → is_cut_at text i ≡ true → Cuts (folded_lines text) folded_lines text i
+    → folded_lines text ≡ take (i + 1) text ∷ folded_lines (drop (i + 1) text)
 folded_cut text i lt cut seen = rw (take_more text i 0 lt) (cuts_here (folded_lines text) folded_lines folded_lines text (get_or text i 0 ∷ []) i (ap folded_lines (drop_more text i 0 lt) ∙ rw cut refl) seen)
 
 -- ---- joined again

@@ -25,14 +25,16 @@ count_by : (boundary : List ℕ) (ls tail : List (List ℕ)) → from_mark bound
 count_by boundary ls tail found = sym (delimiters_from boundary ls) ∙ ap (delimiters boundary) found
 
 -- a mark that closes nothing counts
-counts : (boundary : List ℕ) (ls : List (List ℕ)) (mark : List ℕ) (after : List (List ℕ)) → from_mark boundary ls ≡ mark ∷ after → is_closing boundary mark ≡ false → delimiters boundary ls ≡ 1 + delimiters boundary after
+counts : (boundary : List ℕ) (ls : List (List ℕ)) (mark : List ℕ) (after : List (List ℕ)) → from_mark boundary ls ≡ mark ∷ after
+    → is_closing boundary mark ≡ false → delimiters boundary ls ≡ 1 + delimiters boundary after
 counts boundary ls mark after found plain =
     elim (or_cases (is_delimiter boundary mark) (is_closing boundary mark) (cut_from boundary ls mark after found).marks) [
       | inl d ↦ count_by boundary ls (mark ∷ after) found ∙ rw (plain, d) refl
       | inr c ↦ absurd (cc (sym plain ∙ c))
     ]
 
-counts_none : (boundary : List ℕ) (ls : List (List ℕ)) (mark : List ℕ) (after : List (List ℕ)) → from_mark boundary ls ≡ mark ∷ after → is_closing boundary mark ≡ true → delimiters boundary ls ≡ 0
+counts_none : (boundary : List ℕ) (ls : List (List ℕ)) (mark : List ℕ) (after : List (List ℕ)) → from_mark boundary ls ≡ mark ∷ after
+    → is_closing boundary mark ≡ true → delimiters boundary ls ≡ 0
 counts_none boundary ls mark after found closes = count_by boundary ls (mark ∷ after) found ∙ rw closes refl
 
 not_zero : (n : ℕ) → ((1 + n) == 0) ≡ false
@@ -41,7 +43,8 @@ not_zero n = ne_eqb (1 + n) 0 (λ e. absurd (omega (arith, e)))
 not_one : (n : ℕ) → ((1 + (1 + n)) == 1) ≡ false
 not_one n = ne_eqb (1 + (1 + n)) 1 (λ e. absurd (omega (arith, e)))
 
-second_fault : (boundary : List ℕ) (first : PartText) (ls tail : List (List ℕ)) → from_mark boundary ls ≡ tail → result_err (behind_first boundary first tail) ≡ parts_fault (1 + delimiters boundary ls) true
+second_fault : (boundary : List ℕ) (first : PartText) (ls tail : List (List ℕ)) → from_mark boundary ls ≡ tail
+    → result_err (behind_first boundary first tail) ≡ parts_fault (1 + delimiters boundary ls) true
 second_fault boundary first ls [] found = rw (count_by boundary ls [] found) refl
 second_fault boundary first ls (mark ∷ rest) found =
     elim (cases_Bool (is_closing boundary mark)) [
@@ -49,7 +52,8 @@ second_fault boundary first ls (mark ∷ rest) found =
       | inr plain ↦ rw (counts boundary ls mark rest found plain, plain, not_zero (1 + delimiters boundary rest), not_one (delimiters boundary rest)) refl
     ]
 
-first_fault : (boundary : List ℕ) (ls tail : List (List ℕ)) → from_mark boundary ls ≡ tail → result_err (behind_preamble boundary tail) ≡ parts_fault (delimiters boundary ls) (list_any (is_closing boundary) ls)
+first_fault : (boundary : List ℕ) (ls tail : List (List ℕ)) → from_mark boundary ls ≡ tail
+    → result_err (behind_preamble boundary tail) ≡ parts_fault (delimiters boundary ls) (list_any (is_closing boundary) ls)
 first_fault boundary ls [] found = rw (count_by boundary ls [] found) refl
 first_fault boundary ls (mark ∷ rest) found =
     elim (cases_Bool (is_closing boundary mark)) [
@@ -62,6 +66,7 @@ first_fault boundary ls (mark ∷ rest) found =
           ]
     ]
 
-pub fault_is : (boundary body : List ℕ) (r : Result (Part × Part) PartFault) → parts_result r ≡ parts_reading boundary body → result_err r ≡ part_fault boundary body
+pub fault_is : (boundary body : List ℕ) (r : Result (Part × Part) PartFault) → parts_result r ≡ parts_reading boundary body
+    → result_err r ≡ part_fault boundary body
 fault_is boundary body (Ok parts) e = ap result_err e ∙ first_fault boundary (lines body) (from_mark boundary (lines body)) refl
 fault_is boundary body (Err fault) e = ap result_err e ∙ first_fault boundary (lines body) (from_mark boundary (lines body)) refl

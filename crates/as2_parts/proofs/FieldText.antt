@@ -10,7 +10,8 @@ use Rattle.as2_names.specs.Blanks.{is_blank}
 use Rattle.as2_names.specs.Trim.{trimmed_text}
 use Rattle.as2_parts.specs.Fields.{FieldText, IsField, is_colon, is_field_name_byte, is_field_name, field_with, field_cut, folded_field, begins_with_blank}
 
-pub field_found : (line name behind value : List ℕ) (n : ℕ) → position is_colon line ≡ Some n → name ≡ take n line → behind ≡ drop n line → is_field_name name ≡ true → value ≡ trimmed_text (take (length behind - 1) (drop 1 behind)) → Some (name, value) ≡ folded_field line
+pub field_found : (line name behind value : List ℕ) (n : ℕ) → position is_colon line ≡ Some n → name ≡ take n line → behind ≡ drop n line
+    → is_field_name name ≡ true → value ≡ trimmed_text (take (length behind - 1) (drop 1 behind)) → Some (name, value) ≡ folded_field line
 field_found line name behind value n place front back may e =
     let v : value ≡ trimmed_text (drop (n + 1) line) = e ∙ ap trimmed_text (take_rest behind 1 ∙ ap (drop 1) back ∙ drop-drop 1 n line) in
     let m : is_field_name (take n line) ≡ true = rw (← front) may in

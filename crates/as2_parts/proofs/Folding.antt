@@ -48,7 +48,8 @@ group_each (line ∷ rest) =
       | inr first ↦ rw first (All-cons IsFolded (record { line = line; more = (group rest).0 }) (group rest).1 (not_from_false (begins_with_blank line) first, group_loose rest) (group_each rest))
     ]
 
-group_front : (loose : List (List ℕ)) (rest : List (List ℕ)) (groups : List FoldedLine) → GoOn loose → group rest ≡ ([], groups) → group (loose ++ rest) ≡ (loose, groups)
+group_front : (loose : List (List ℕ)) (rest : List (List ℕ)) (groups : List FoldedLine) → GoOn loose → group rest ≡ ([], groups)
+    → group (loose ++ rest) ≡ (loose, groups)
 group_front [] rest groups go_on e = e
 group_front (line ∷ loose) rest groups go_on e =
     let blank : begins_with_blank line ≡ true = All-head Blank line loose go_on in
@@ -87,7 +88,8 @@ onto_blocks b [] = refl
 onto_blocks b (line ∷ rest) = refl
 
 -- behind a line end
-blocks_behind : (rest : List ℕ) → cond (not (begins_with_blank rest)) ((10 ∷ []) ∷ blocks (lines rest)) (onto_first 10 (blocks (lines rest))) ≡ blocks ((10 ∷ []) ∷ lines rest)
+blocks_behind : (rest : List ℕ)
+    → cond (not (begins_with_blank rest)) ((10 ∷ []) ∷ blocks (lines rest)) (onto_first 10 (blocks (lines rest))) ≡ blocks ((10 ∷ []) ∷ lines rest)
 blocks_behind [] = refl
 blocks_behind (b ∷ rest) =
     let l = lines_some b rest in
@@ -124,7 +126,8 @@ fields_joined (line ∷ rest) =
 fields_are : (text : List ℕ) → fields text ≡ filter_map folded_field (joined (group (lines text)).1)
 fields_are text = ap (filter_map folded_field) (folded_is text) ∙ fields_joined (lines text)
 
-holds_one : (f : FoldedLine) (rest : List FoldedLine) (others : List FieldText) → HoldsFields rest others → (o : Option FieldText) → folded_field (concat (lines_of f)) ≡ o → HoldsFields (f ∷ rest) (cons_option o others)
+holds_one : (f : FoldedLine) (rest : List FoldedLine) (others : List FieldText) → HoldsFields rest others → (o : Option FieldText)
+    → folded_field (concat (lines_of f)) ≡ o → HoldsFields (f ∷ rest) (cons_option o others)
 holds_one f rest others more None e = inr ((λ field i. absurd (cc (sym e ∙ field_again (concat (lines_of f)) field i))), more)
 holds_one f rest others more (Some field) e = inl (field, others, refl, field_take (concat (lines_of f)) field e, more)
 

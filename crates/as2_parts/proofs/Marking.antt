@@ -13,7 +13,8 @@ pub record Unmarked (boundary text : List ℕ) (place : ℕ) (rest : List ℕ) :
   pub same : from_mark boundary (lines text) ≡ from_mark boundary (lines rest)
   pub front : concat (before_mark boundary (lines text)) ≡ take place text ++ concat (before_mark boundary (lines rest))
 
-pub unmarked_on : (boundary text : List ℕ) (place : ℕ) (rest line after : List ℕ) → is_mark boundary line ≡ false → lines rest ≡ line ∷ lines after → rest ≡ line ++ after → Unmarked boundary text place rest → Unmarked boundary text (place + length line) after
+pub unmarked_on : (boundary text : List ℕ) (place : ℕ) (rest line after : List ℕ) → is_mark boundary line ≡ false → lines rest ≡ line ∷ lines after
+    → rest ≡ line ++ after → Unmarked boundary text place rest → Unmarked boundary text (place + length line) after
 unmarked_on boundary text place rest line after plain cut whole u =
     let others = concat (before_mark boundary (lines after)) in
     let here : concat (before_mark boundary (lines rest)) ≡ line ++ others = ap (λ (ls : List (List ℕ)). concat (before_mark boundary ls)) cut ∙ rw plain refl in
@@ -29,7 +30,8 @@ pub record InHead (text : List ℕ) (place : ℕ) (rest : List ℕ) : Type 0 whe
   pub head : (part_in text).0 ≡ take place text ++ (part_in rest).0
   pub content : (part_in text).1 ≡ (part_in rest).1
 
-pub head_on : (text : List ℕ) (place : ℕ) (rest line after : List ℕ) → is_empty_line line ≡ false → lines rest ≡ line ∷ lines after → rest ≡ line ++ after → InHead text place rest → InHead text (place + length line) after
+pub head_on : (text : List ℕ) (place : ℕ) (rest line after : List ℕ) → is_empty_line line ≡ false → lines rest ≡ line ∷ lines after → rest ≡ line ++ after
+    → InHead text place rest → InHead text (place + length line) after
 head_on text place rest line after some cut whole h =
     let others = (part_in after).0 in
     let here : (part_in rest).0 ≡ line ++ others = ap (λ (ls : List (List ℕ)). (cut_at_empty_line ls).0) cut ∙ rw some refl in
@@ -39,7 +41,8 @@ head_on text place rest line after some cut whole h =
       content = h.content ∙ ap (λ (ls : List (List ℕ)). (cut_at_empty_line ls).1) cut ∙ rw some refl;
     }
 
-pub head_ends : (text : List ℕ) (place : ℕ) (rest line after : List ℕ) → is_empty_line line ≡ true → lines rest ≡ line ∷ lines after → InHead text place rest → (take place text, after) ≡ part_in text
+pub head_ends : (text : List ℕ) (place : ℕ) (rest line after : List ℕ) → is_empty_line line ≡ true → lines rest ≡ line ∷ lines after → InHead text place rest
+    → (take place text, after) ≡ part_in text
 head_ends text place rest line after empty cut h =
     let head : (part_in rest).0 ≡ [] = ap (λ (ls : List (List ℕ)). (cut_at_empty_line ls).0) cut ∙ rw empty refl in
     let content : (part_in rest).1 ≡ after = ap (λ (ls : List (List ℕ)). (cut_at_empty_line ls).1) cut ∙ rw empty (lines_joined after) in

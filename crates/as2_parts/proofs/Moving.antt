@@ -13,7 +13,8 @@ put_together text place line after e = sym (take-append-drop place text) ∙ ap 
 front_length : (text : List ℕ) (place : ℕ) (line : List ℕ) → place ≤ length text → length (take place text ++ line) ≡ place + length line
 front_length text place line le = omega (arith, length-append (take place text) line, length-take-le place text le)
 
-pub front_on : (text rest line after : List ℕ) (place : ℕ) → StandsAt text place rest → rest ≡ line ++ after → take (place + length line) text ≡ take place text ++ line
+pub front_on : (text rest line after : List ℕ) (place : ℕ) → StandsAt text place rest → rest ≡ line ++ after
+    → take (place + length line) text ≡ take place text ++ line
 front_on text rest line after place s e =
     ap (take (place + length line)) (put_together text place line after (s.is ∙ e)) ∙ take_at (take place text ++ line) after (place + length line) (front_length text place line s.within)
 

@@ -34,7 +34,8 @@ pub record Cut (boundary : List ℕ) (ls : List (List ℕ)) (mark : List ℕ) (a
   pub whole : ls ≡ before_mark boundary ls ++ mark ∷ after
   pub marks : is_mark boundary mark ≡ true
 
-pub cut_from : (boundary : List ℕ) (ls : List (List ℕ)) (mark : List ℕ) (after : List (List ℕ)) → from_mark boundary ls ≡ mark ∷ after → Cut boundary ls mark after
+pub cut_from : (boundary : List ℕ) (ls : List (List ℕ)) (mark : List ℕ) (after : List (List ℕ)) → from_mark boundary ls ≡ mark ∷ after
+    → Cut boundary ls mark after
 cut_from boundary [] mark after e = absurd cc
 cut_from boundary (line ∷ rest) mark after e =
     elim (cases_Bool (is_mark boundary line)) [
@@ -48,13 +49,15 @@ cut_from boundary (line ∷ rest) mark after e =
           record { whole = rw plain (ap (λ (ls : List (List ℕ)). line ∷ ls) more.whole); marks = more.marks }
     ]
 
-from_mark_at : (boundary : List ℕ) (front : List (List ℕ)) (mark : List ℕ) (after : List (List ℕ)) → Plain boundary front → is_mark boundary mark ≡ true → from_mark boundary (front ++ mark ∷ after) ≡ mark ∷ after
+from_mark_at : (boundary : List ℕ) (front : List (List ℕ)) (mark : List ℕ) (after : List (List ℕ)) → Plain boundary front → is_mark boundary mark ≡ true
+    → from_mark boundary (front ++ mark ∷ after) ≡ mark ∷ after
 from_mark_at boundary [] mark after plain marks = rw marks refl
 from_mark_at boundary (line ∷ front) mark after plain marks =
     let here : is_mark boundary line ≡ false = All-head (λ line. is_mark boundary line ≡ false) line front plain in
     rw here (from_mark_at boundary front mark after (All-tail (λ line. is_mark boundary line ≡ false) line front plain) marks)
 
-before_mark_at : (boundary : List ℕ) (front : List (List ℕ)) (mark : List ℕ) (after : List (List ℕ)) → Plain boundary front → is_mark boundary mark ≡ true → before_mark boundary (front ++ mark ∷ after) ≡ front
+before_mark_at : (boundary : List ℕ) (front : List (List ℕ)) (mark : List ℕ) (after : List (List ℕ)) → Plain boundary front → is_mark boundary mark ≡ true
+    → before_mark boundary (front ++ mark ∷ after) ≡ front
 before_mark_at boundary [] mark after plain marks = rw marks refl
 before_mark_at boundary (line ∷ front) mark after plain marks =
     let here : is_mark boundary line ≡ false = All-head (λ line. is_mark boundary line ≡ false) line front plain in
@@ -76,15 +79,20 @@ record TwoPartsRead (boundary : List ℕ) (ls : List (List ℕ)) (first second :
   pub first_part : first ≡ part_of (before_mark boundary after)
   pub second_part : second ≡ part_of (before_mark boundary rest)
 
-without_fault : (t : Bool) (fault : PartFault) (r : Result (PartText × PartText) PartFault) (p : PartText × PartText) → cond t (Err fault) r ≡ Ok p → (t ≡ false) × (r ≡ Ok p)
+without_fault : (t : Bool) (fault : PartFault) (r : Result (PartText × PartText) PartFault) (p : PartText × PartText) → cond t (Err fault) r ≡ Ok p
+    → (t ≡ false) × (r ≡ Ok p)
 without_fault true fault r p e = absurd cc
 without_fault false fault r p e = (refl, e)
 
-guarded : (t : Bool) (fault : PartFault) (r : Result (PartText × PartText) PartFault) (p : PartText × PartText) → cond t r (Err fault) ≡ Ok p → (t ≡ true) × (r ≡ Ok p)
+guarded : (t : Bool) (fault : PartFault) (r : Result (PartText × PartText) PartFault) (p : PartText × PartText) → cond t r (Err fault) ≡ Ok p → (t ≡ true)
+    × (r ≡ Ok p)
 guarded true fault r p e = (refl, e)
 guarded false fault r p e = absurd cc
 
-reads_second : (boundary : List ℕ) (ls : List (List ℕ)) (opening : List ℕ) (after : List (List ℕ)) (tail : List (List ℕ)) (first second : PartText) → from_mark boundary ls ≡ opening ∷ after → is_closing boundary opening ≡ false → list_any (is_closing boundary) after ≡ true → from_mark boundary after ≡ tail → behind_first boundary (part_of (before_mark boundary after)) tail ≡ Ok (first, second) → TwoPartsRead boundary ls first second
+reads_second : (boundary : List ℕ) (ls : List (List ℕ)) (opening : List ℕ) (after : List (List ℕ)) (tail : List (List ℕ)) (first second : PartText)
+    → from_mark boundary ls ≡ opening ∷ after → is_closing boundary opening ≡ false → list_any (is_closing boundary) after ≡ true
+    → from_mark boundary after ≡ tail → behind_first boundary (part_of (before_mark boundary after)) tail ≡ Ok (first, second)
+    → TwoPartsRead boundary ls first second
 reads_second boundary ls opening after [] first second starts opens closed found e = absurd cc
 reads_second boundary ls opening after (mark ∷ rest) first second starts opens closed found e =
     let c = without_fault (is_closing boundary mark) OnePart (Ok (part_of (before_mark boundary after), part_of (before_mark boundary rest))) (first, second) e in
@@ -103,7 +111,8 @@ reads_second boundary ls opening after (mark ∷ rest) first second starts opens
       second_part = sym (ap (λ (p : PartText × PartText). p.1) same);
     }
 
-reads_first : (boundary : List ℕ) (ls tail : List (List ℕ)) (first second : PartText) → from_mark boundary ls ≡ tail → behind_preamble boundary tail ≡ Ok (first, second) → TwoPartsRead boundary ls first second
+reads_first : (boundary : List ℕ) (ls tail : List (List ℕ)) (first second : PartText) → from_mark boundary ls ≡ tail
+    → behind_preamble boundary tail ≡ Ok (first, second) → TwoPartsRead boundary ls first second
 reads_first boundary ls [] first second found e = absurd cc
 reads_first boundary ls (mark ∷ rest) first second found e =
     let c = without_fault (is_closing boundary mark) NoDelimiter _ (first, second) e in
@@ -118,7 +127,8 @@ opens_by boundary mark marks open_line =
       | inr c ↦ absurd (cc (sym open_line ∙ c))
     ]
 
-ends_by : (boundary : List ℕ) (tail : List (List ℕ)) → list_any (is_closing boundary) tail ≡ true → (mark : List ℕ) × (after : List (List ℕ)) × (tail ≡ mark ∷ after)
+ends_by : (boundary : List ℕ) (tail : List (List ℕ)) → list_any (is_closing boundary) tail ≡ true → (mark : List ℕ) × (after : List (List ℕ))
+    × (tail ≡ mark ∷ after)
 ends_by boundary [] e = absurd cc
 ends_by boundary (mark ∷ after) e = (mark, after, refl)
 
@@ -126,7 +136,8 @@ has_closing : (boundary : List ℕ) (ls : List (List ℕ)) → list_any (is_clos
 has_closing boundary ls e = let a = Any-from_list_any (is_closing boundary) ls e in (a.0, a.1, a.2, a.3, closing_is boundary a.1 a.4)
 
 -- a closing line stands behind the second delimiter
-closed_behind : (boundary : List ℕ) (after : List (List ℕ)) (between : List ℕ) (rest : List (List ℕ)) → from_mark boundary after ≡ between ∷ rest → is_closing boundary between ≡ false → list_any (is_closing boundary) after ≡ true → list_any (is_closing boundary) (from_mark boundary rest) ≡ true
+closed_behind : (boundary : List ℕ) (after : List (List ℕ)) (between : List ℕ) (rest : List (List ℕ)) → from_mark boundary after ≡ between ∷ rest
+    → is_closing boundary between ≡ false → list_any (is_closing boundary) after ≡ true → list_any (is_closing boundary) (from_mark boundary rest) ≡ true
 closed_behind boundary after between rest found parts closed =
     let both : (is_closing boundary between || list_any (is_closing boundary) rest) ≡ true = sym (closing_after boundary after between rest found) ∙ closed in
     let later : list_any (is_closing boundary) rest ≡ true = rw parts at both in
@@ -191,6 +202,7 @@ again boundary body first second t =
 
 -- ---- the answer of the code
 
-pub found_if : (boundary body : List ℕ) (r : Result (Part × Part) PartFault) → parts_result r ≡ parts_reading boundary body → IfOk r (λ parts. IsTwoParts boundary body (part_text parts.0) (part_text parts.1))
+pub found_if : (boundary body : List ℕ) (r : Result (Part × Part) PartFault) → parts_result r ≡ parts_reading boundary body
+    → IfOk r (λ parts. IsTwoParts boundary body (part_text parts.0) (part_text parts.1))
 found_if boundary body (Ok parts) e = found boundary body (part_text parts.0) (part_text parts.1) (sym e)
 found_if boundary body (Err fault) e = tt

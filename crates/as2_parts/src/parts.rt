@@ -83,7 +83,8 @@ pub fn two_parts<'a>(body: &'a [u8], boundary: &[u8]) -> Result<(Part<'a>, Part<
     // What is found are the parts of the body.
     ensures found { IfOk result (λ parts. IsTwoParts boundary.now body.now (part_text parts.0) (part_text parts.1)) }
     // Where the body has two parts, they are found.
-    ensures only { (first second : PartText) → IsTwoParts boundary.now body.now first second → parts_result result ≡ Ok (first, second) }
+    ensures only { (first second : PartText) → IsTwoParts boundary.now body.now first second
+        → parts_result result ≡ Ok (first, second) }
     // The fault is the first in the order NoDelimiter, NotClosed, OnePart.
     ensures fault { result_err result ≡ part_fault boundary.now body.now }
     // The answer is the one that the function gives.

@@ -7,7 +7,8 @@ use Rattle.as2_text.specs.declared.receipt_ask.How.TheVariants as how
 use Rattle.as2_text.proofs.Addresses.{url_again}
 use Rattle.as2_text.proofs.ReceiptRequests.{asks_found}
 
-says_once : (vs : List (List ℕ)) (delivery : How) (url : List ℕ × List ℕ) → SaysHow vs delivery → delivery ≡ how.Async url → (is_given_twice vs ≡ false) × IsTrue (is_some (url_of (text_of vs)))
+says_once : (vs : List (List ℕ)) (delivery : How) (url : List ℕ × List ℕ) → SaysHow vs delivery → delivery ≡ how.Async url → (is_given_twice vs ≡ false)
+    × IsTrue (is_some (url_of (text_of vs)))
 says_once vs delivery url (inl says) is = absurd cc
 says_once vs delivery url (inr says) is =
     (ap is_given_twice says.2, subst (λ l. IsTrue (is_some (url_of (text_of l)))) (sym says.2) (subst (λ o. IsTrue (is_some o)) (sym (url_again says.0 says.1 says.3)) refl))

@@ -9,19 +9,22 @@ use Rattle.as2_exchange.specs.Jobs.{address_of, address_or_nothing, asking_field
 use Rattle.as2_posts.specs.Sending.{content_fields, name_fields, receipt_to, request_to}
 
 -- the authority of an address that was read
-pub named_authority : (text : Text) (read : Option (Text × Text)) (address : Text × Text) → read ≡ Some address → IfSome read (IsUrl text) → IsAuthority (authority_of address)
+pub named_authority : (text : Text) (read : Option (Text × Text)) (address : Text × Text) → read ≡ Some address → IfSome read (IsUrl text)
+    → IsAuthority (authority_of address)
 named_authority text read address is found = (subst (λ o. IfSome o (IsUrl text)) is found).authority
 
 -- four texts that are appended one behind the other
 pub four : (t a b c d : List ℕ) → (((t ++ a) ++ b) ++ c) ++ d ≡ t ++ (((a ++ b) ++ c) ++ d)
 four t a b c d = ap (λ l. (l ++ c) ++ d) (append_assoc t a b) ∙ ap (λ l. l ++ d) (append_assoc t (a ++ b) c) ∙ append_assoc t ((a ++ b) ++ c) d
 
-joined : (A : Agreements) (p : Partner) (organization id content : Text) → name_fields p organization id ++ content_fields A p content ≡ document_fields A p organization id content
+joined : (A : Agreements) (p : Partner) (organization id content : Text)
+    → name_fields p organization id ++ content_fields A p content ≡ document_fields A p organization id content
 joined A p organization id content =
     sym (four (name_fields p organization id) (crlf_line (codes "Content-Type: ") p.content_type) (codes "Content-Transfer-Encoding: binary\r\n") (asking_fields p.receipt A p) (crlf_line (codes "Content-Length: ") (decimal (length content))))
 
 -- the address is the partner's
-pub same_request : (A : Agreements) (p : Partner) (organization id content : Text) (address : Text × Text) → url_of p.url ≡ Some address → request_to address A p organization id content ≡ document_request A p organization id content
+pub same_request : (A : Agreements) (p : Partner) (organization id content : Text) (address : Text × Text) → url_of p.url ≡ Some address
+    → request_to address A p organization id content ≡ document_request A p organization id content
 same_request A p organization id content address is =
     let there : address_or_nothing (Some address) ≡ address_of p.url = ap address_or_nothing (sym is) in
     ap (λ (text : Text). record { authority = authority_of address; bytes = text ++ codes "\r\n" ++ content })

@@ -70,7 +70,9 @@ fn posted(
     content: Pieces,
 ) -> Result<Posted, Memory>
     requires { is_asked head.now (request_of ask.now) }
-    ensures { IfOk result (λ p. p ≡ posted_document AllDigests (names_in opened.entry) id (opened_type opened.entry) head.now content (request_of ask.now)) }
+    ensures { IfOk result (λ p. p
+        ≡ posted_document AllDigests (names_in opened.entry) id (opened_type opened.entry) head.now content
+        (request_of ask.now)) }
 {
     let outcome = outcome_of(opened.media.kind(), encoding_refused(head), ask);
     let how = how_of(alloc, head, ask)?;

@@ -3,7 +3,7 @@ ghost use Rattle.std.specs.Prelude.{◌≡◌};
 ghost use Rattle.as2_exchange.specs.Recording.{first_entry};
 ghost use Rattle.as2_posts.specs.Answers.{is_requeued};
 
-use as2_exchange::{Attempt, InEntry, ReceiptStage, Posted, ReceiptDelivery};
+use as2_exchange::{Attempt, InEntry, Posted, ReceiptDelivery, ReceiptStage};
 use as2_text::Moment;
 
 /// The entry of a document that is posted for the first time.
@@ -32,5 +32,6 @@ pub fn is_requeued(entry: &InEntry) -> bool
     ensures { result ≡ is_requeued entry.now }
 {
     matches!(entry.posted.how, ReceiptDelivery::Async(_))
-        && (entry.receipt_stage == ReceiptStage::Sent || matches!(entry.attempt, Attempt::Last | Attempt::Used))
+        && (entry.receipt_stage == ReceiptStage::Sent
+            || matches!(entry.attempt, Attempt::Last | Attempt::Used))
 }

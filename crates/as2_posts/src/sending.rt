@@ -97,7 +97,8 @@ fn add_asking(
     agreements: &Agreements,
     partner: &Partner,
 ) -> Result<(), AllocError>
-    ensures { OnOk result (text.new.items ≡ text.old.items ++ asking_fields partner.now.receipt agreements.now partner.now) }
+    ensures { OnOk result (text.new.items
+        ≡ text.old.items ++ asking_fields partner.now.receipt agreements.now partner.now) }
 {
     match partner.receipt {
         Asked::NoReceipt => Ok(()),
@@ -167,7 +168,8 @@ fn job_to(
     id: &MessageId,
     content: &Pieces,
 ) -> Result<Job, Memory>
-    ensures job { IfOk result (λ job. job ≡ request_to url.now agreements.now partner.now organization.now id.now content.now) }
+    ensures job { IfOk result (λ job. job
+        ≡ request_to url.now agreements.now partner.now organization.now id.now content.now) }
 {
     let mut bytes = Vec::with_capacity(alloc, content.len().saturating_add(HEAD))?;
     add_opening(&mut bytes, url)?;
@@ -190,7 +192,8 @@ pub fn document_job(
     id: &MessageId,
     content: &Pieces,
 ) -> Result<Job, StoreFault>
-    ensures job { IfOk result (λ job. job ≡ document_request agreements.now partner.now organization.now id.now content.now) }
+    ensures job { IfOk result (λ job. job
+        ≡ document_request agreements.now partner.now organization.now id.now content.now) }
     ensures address { IfOk result (λ job. IsAuthority job.authority) }
     ensures fault { IfErr result (λ f. (f ≡ fault.Memory) ⊎ (f ≡ fault.Refused)) }
 {

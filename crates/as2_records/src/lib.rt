@@ -17,7 +17,7 @@ mod summaries;
 pub use counts::Counts;
 pub use discrepancy::Discrepancy;
 pub use numbers::NextNumbers;
-pub use progress::{ReceiptProgress, Progress};
+pub use progress::{Progress, ReceiptProgress};
 pub use records::Records;
 pub use summaries::{InRow, OutRow};
 

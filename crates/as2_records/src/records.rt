@@ -22,7 +22,7 @@ ghost use Rattle.as2_records.specs.Standing.{Medium, Standing, may_come};
 use crate::counts::Counts;
 use crate::discrepancy::Discrepancy;
 use crate::numbers::NextNumbers;
-use crate::progress::{ReceiptProgress, Progress};
+use crate::progress::{Progress, ReceiptProgress};
 use crate::summaries::{InRow, OutRow};
 use as2_exchange::{Evidence, InEntry, OutEntry, StoreFault};
 use as2_mdn::{Detail, DetailClass};
@@ -156,7 +156,11 @@ pub trait Records {
 
     /// The documents of that state, or all, in order of number, each with the length of its content in place of the content,
     /// and without its evidence. Answers Memory, Disk or Refused.
-    fn list_out(&mut self, alloc: Global, wanted: Option<DetailClass>) -> Result<Vec<OutRow>, StoreFault>
+    fn list_out(
+        &mut self,
+        alloc: Global,
+        wanted: Option<DetailClass>,
+    ) -> Result<Vec<OutRow>, StoreFault>
         ensures documents { Reads (λ s documents. documents.items
             ≡ listed_rows wanted s) (shows self.old) (shows self.new) result }
         ensures fault { IfErr result (λ f. may_come f ≡ true) };

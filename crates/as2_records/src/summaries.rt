@@ -4,7 +4,7 @@ ghost use Rattle.std.specs.Prelude.{◌≡◌};
 ghost use Rattle.as2_records.specs.Summaries.{in_entry, out_entry};
 
 use as2_exchange::{
-    Attempt, Bytes, Evidence, InEntry, ReceiptStage, OutEntry, Posted, ReceiptDelivery,
+    Attempt, Bytes, Evidence, InEntry, OutEntry, Posted, ReceiptDelivery, ReceiptStage,
 };
 use as2_mdn::{Detail, Outcome, ReceiptMic};
 use as2_mic::Pieces;

@@ -66,7 +66,8 @@ next_is o a t u is next = let same : Some t ≡ Some u = sym (ap (option_map (λ
 
 module _ (A : Agreements) (e : Event) (old new : Connected) (clean : HasCleanDisk new) where
   -- an answer is left by every crash
-  pub answered_lasts : (a : Answer) → TakesEvent A e (λ a. a) (tables_standing old) (tables_standing new) (Ok a) → (s t : State) → Rests old s → TablesLast old s
+  pub answered_lasts : (a : Answer) → TakesEvent A e (λ a. a) (tables_standing old) (tables_standing new) (Ok a) → (s t : State) → Rests old s
+      → TablesLast old s
       → step A s e ≡ Some (a, t) → Rests new t → TablesLast new t
   answered_lasts a it s t rests lasts is rested = by new.is_open refl (asks_store A e) refl
     where
@@ -215,7 +216,8 @@ module _ (A : Agreements) (x : Event) (told : Trace) (old mid : Connected) (clea
           elim (go (Some u) next) [ inl k ↦ inl (k.0, failed_first A x f told s k.0 now.1 k.1, k.2) | inr k ↦ inr (k.0, (other.1, k.1), k.2, k.3) ]
 
 module _ {S : Type 0} (g : Ghosts S) (A : Agreements) where
-  goes_on : (es : List Event) (rs : List (Result Answer StoreFault)) (old new : Held S) → TakesEvents (λ (h : Held S). tables_standing (state g h)) A es rs old new
+  goes_on : (es : List Event) (rs : List (Result Answer StoreFault)) (old new : Held S)
+      → TakesEvents (λ (h : Held S). tables_standing (state g h)) A es rs old new
       → HasCleanDisk (state g new) → (s : State) (o : Option State) → At s o (state g old)
       → (db : Trees) → (state g new).may_leave db → Goes A (trace es rs) s o db
   goes_on [] [] old new same clean s None at db may = (s, ([], inl refl, refl), at.1.each db (subst (λ (h : Held S). (state g h).may_leave db) same may))
@@ -236,7 +238,8 @@ module _ {S : Type 0} (g : Ghosts S) (A : Agreements) where
       failed_shut A x (trace es rs) (state g old) (state g it.0) (taken_clean (λ (h : Held S). tables_standing (state g h)) A es rs it.0 new it.4 clean) db f it.1 s u at (λ o there. goes_on es rs it.0 new it.4 clean s o there db may)
 
   -- whatever stops the computer after these events, they lead to what is found, perhaps with one more done
-  pub leaves : (es : List Event) (rs : List (Result Answer StoreFault)) (old new : Held S) → TakesEvents (λ (h : Held S). tables_standing (state g h)) A es rs old new
+  pub leaves : (es : List Event) (rs : List (Result Answer StoreFault)) (old new : Held S)
+      → TakesEvents (λ (h : Held S). tables_standing (state g h)) A es rs old new
       → HasCleanDisk (state g new) → (s : State) → IsHeld (state g old) s → LeadsToFound A (trace es rs) s (state g new)
   leaves es rs old new taken clean s held db may =
       let it = goes_on es rs old new taken clean s None (held.rests, held.lasts) db may in

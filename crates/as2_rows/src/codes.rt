@@ -11,7 +11,7 @@ ghost use Rattle.as2_rows.specs.Rows.{whole};
 
 use crate::RowFault;
 use crate::cells::integer;
-use as2_exchange::{Attempt, ReceiptStage, ReceiptDelivery};
+use as2_exchange::{Attempt, ReceiptDelivery, ReceiptStage};
 use as2_mdn::{Detail, Outcome};
 use sqlite::types::ValueRef;
 

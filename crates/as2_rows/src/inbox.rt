@@ -7,7 +7,7 @@ ghost use Rattle.as2_rows.specs.declared.fault.RowFault.TheVariants as fault;
 
 use crate::RowFault;
 use crate::cells::{column, how, identifier_of, mic, moment, name, text, whole, whole_or_null};
-use crate::codes::{attempt_in, receipt_stage_in, outcome_in};
+use crate::codes::{attempt_in, outcome_in, receipt_stage_in};
 use as2_records::InRow;
 use sqlite::Row;
 use std::alloc::Global;

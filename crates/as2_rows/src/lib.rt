@@ -12,8 +12,8 @@ mod outbox;
 mod waiting;
 
 pub use codes::{
-    attempt_code, attempt_of_code, detail_code, detail_of_code, how_code, receipt_stage_code, receipt_stage_of_code,
-    outcome_code, outcome_of_code,
+    attempt_code, attempt_of_code, detail_code, detail_of_code, how_code, outcome_code,
+    outcome_of_code, receipt_stage_code, receipt_stage_of_code,
 };
 pub use contents::content_in;
 pub use evidence::EvidenceRow;

@@ -193,7 +193,8 @@ first_line m x more =
     ap (λ (l : Text). l ++ (line_of (outcome_event x.what x.got m) (answer_of x.became) ++ trace_lines (turn_events m more))) (untold x.what m x.job)
     ∙ ap (λ (l : Text). l ++ trace_lines (turn_events m more)) (told x.what x.got m x.became)
 
-lines_more : (m : ℕ) (done : List Turn) (x : Turn) → trace_lines (turn_events m (done ++ x ∷ [])) ≡ trace_lines (turn_events m done) ++ turn_line x.what x.became
+lines_more : (m : ℕ) (done : List Turn) (x : Turn)
+    → trace_lines (turn_events m (done ++ x ∷ [])) ≡ trace_lines (turn_events m done) ++ turn_line x.what x.became
 lines_more m [] x = first_line m x [] ∙ append-nil (turn_line x.what x.became)
 lines_more m (y ∷ done) x =
     first_line m y (done ++ x ∷ [])

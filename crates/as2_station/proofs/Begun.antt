@@ -72,7 +72,8 @@ tries_left p d m is = by (is_settled d) (nat_le p.max_tries d.tries) (waits d.de
 -- what is written is what the machine leaves
 pub begins : (A : Agreements) (m : ℕ) (s t : State) (d : OutEntry) (p : Partner) → IsCounted s → document s d.number ≡ Some d
     → agreed_partner A d.organization d.partner ≡ Ok p → try_refusal p d m ≡ None
-    → set_out_in d.number (progress_after_try p d m) s ≡ Some t → Some (on_document s d.number (begun A m)) ≡ Some (AJob (document_job A p d.organization d.id d.content), t)
+    → set_out_in d.number (progress_after_try p d m) s ≡ Some t
+    → Some (on_document s d.number (begun A m)) ≡ Some (AJob (document_job A p d.organization d.id d.content), t)
 begins A m s t d p stands found known fine is =
     let left : Some (change_document s d.number (come_to (progress_after_try p d m))) ≡ Some t = ap (option_map (λ _. change_document s d.number (come_to (progress_after_try p d m)))) (sym found) ∙ is in
     let there : change_document s d.number (come_to (progress_after_try p d m)) ≡ t = cc in

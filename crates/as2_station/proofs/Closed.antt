@@ -107,7 +107,8 @@ module _ (A : Agreements) (digests : Digests) (got : TryAnswer) (m : ℕ) (d : O
   unfolding closed_document
   not_agreed reason is = refused_agreed A d.organization d.partner d _ reason is
 
-  pub settled_before : (p : Partner) → agreed_partner A d.organization d.partner ≡ Ok p → is_settled d ≡ true → closed_document A digests got m d ≡ (AlreadySettled, d)
+  pub settled_before : (p : Partner) → agreed_partner A d.organization d.partner ≡ Ok p → is_settled d ≡ true
+      → closed_document A digests got m d ≡ (AlreadySettled, d)
   unfolding closed_document
   settled_before p known settled = acts_agreed A d.organization d.partner d _ p known ∙ rw settled refl
 

@@ -63,7 +63,8 @@ module _ {M : Medium} (old new : Standing M) (m : Marked) (rows : List OutRow) (
   -- with the counts, where these were read before
   outstanding_known : (moment : ℕ) (counts : Counts)
       → (Rise settled → IfOk r (λ t. string_bytes t ≡ counts_text counts ++ flat_map (marked_line settled) (filter (is_outstanding moment) rows)))
-      → Reads {A = Marked} {E = StoreFault} (Known None) old new (Ok m) → Reads (λ s t. counts ≡ counts_of s → string_bytes t ≡ outstanding_text s moment) old new r
+      → Reads {A = Marked} {E = StoreFault} (Known None) old new (Ok m)
+      → Reads (λ s t. counts ≡ counts_of s → string_bytes t ≡ outstanding_text s moment) old new r
   outstanding_known moment counts lines it =
       read_if (Rising None) (λ s t. counts ≡ counts_of s → string_bytes t ≡ outstanding_text s moment) old new m r (λ t. Rise settled → string_bytes t ≡ counts_text counts ++ flat_map (marked_line settled) (filter (is_outstanding moment) rows)) (under _ r lines)
       (λ s t told known counted.

@@ -166,7 +166,8 @@ fn end_of(
 fn end_try<R: Records>(records: &mut R, entry: &OutEntry, end: End) -> Result<Ended, StoreFault>
     requires unsettled { LeavesUnsettled end }
     requires open { (R.shows records.old).IsClean → IsTrue (R.shows records.old).is_open }
-    ensures taken { Does (λ s. Some (on_document s entry.now.number (ended_document end))) (λ s. document s entry.now.number
+    ensures taken { Does (λ s. Some (on_document s entry.now.number (ended_document end)))
+        (λ s. document s entry.now.number
         ≡ Some entry.now) (true ≡ true) said_to_outcome (R.shows records.old) (R.shows records.new) result }
 {
     if !entry.begun {
@@ -198,7 +199,8 @@ fn close_found<R: Records>(
     moment: Moment,
 ) -> Result<Ended, StoreFault>
     requires open { (R.shows records.old).IsClean → IsTrue (R.shows records.old).is_open }
-    ensures taken { Does (λ s. Some (on_document s entry.now.number (closed_document agreements.now AllDigests answer moment)))
+    ensures taken { Does
+        (λ s. Some (on_document s entry.now.number (closed_document agreements.now AllDigests answer moment)))
         (λ s. document s entry.now.number ≡ Some entry.now) (true
         ≡ true) said_to_outcome (R.shows records.old) (R.shows records.new) result }
 {
@@ -225,7 +227,8 @@ pub fn close<R: Records>(
     answer: TryAnswer,
     moment: Moment,
 ) -> Result<Ended, StoreFault>
-    ensures taken { Does (λ s. Some (on_document s number (closed_document agreements.now AllDigests answer moment))) always
+    ensures taken { Does (λ s. Some (on_document s number (closed_document agreements.now AllDigests answer moment)))
+        always
         (true ≡ true) said_to_outcome (R.shows records.old) (R.shows records.new) result }
 {
     match records.find_out(alloc, number)? {

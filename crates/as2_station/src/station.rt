@@ -372,7 +372,8 @@ impl<R: Records> Station<R> {
         agreements: &Agreements,
         events: Vec<Event>,
     ) -> Result<Vec<Result<Answer, StoreFault>>, Memory>
-        ensures each { IfOk result (λ said. TakesEvents R.shows agreements.now events.items said.items self.old self.new) }
+        ensures each { IfOk result
+            (λ said. TakesEvents R.shows agreements.now events.items said.items self.old self.new) }
         ensures played { IfOk result (λ said. Plays R.shows agreements.now events.items said.items self.old self.new) }
         ensures nothing { OnErr result (self.new ≡ self.old) }
     {

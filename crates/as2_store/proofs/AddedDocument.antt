@@ -100,7 +100,8 @@ entered_document way a b c d s x it small unsettled tried one two three =
 -- and then the counter
 stands_submitted : (way : Way) (a d e : Connected) (s : State) (x : OutEntry) → Stands (VersionThree way) a.now s → x.number ≡ s.next_out
     → x.number < end_of_numbers → IsEntered way d.now s x.number s.next_out (with_document s x)
-    → ChangesTable d e (store_schema way) meta_tree (meta_row current_number s.next_in (x.number + 1) ∷ []) → Stands (VersionThree way) e.now (with_document s x)
+    → ChangesTable d e (store_schema way) meta_tree (meta_row current_number s.next_in (x.number + 1) ∷ [])
+    → Stands (VersionThree way) e.now (with_document s x)
 unfolding IsWhole
 stands_submitted way a d e s x it is small mid four =
     let k4 = keeping way AtMeta d.now.trees e.now.trees four.others in

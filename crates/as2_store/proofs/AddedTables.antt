@@ -90,7 +90,8 @@ entered way a b c d s x it small one two three =
 -- and then the counter
 pub stands_received : (way : Way) (a d e : Connected) (s : State) (x : InEntry) → Stands (VersionThree way) a.now s → x.number ≡ s.next_in
     → x.number < end_of_numbers → IsEntered way d.now s x.number s.next_in (with_received s x)
-    → ChangesTable d e (store_schema way) meta_tree (meta_row current_number (x.number + 1) s.next_out ∷ []) → Stands (VersionThree way) e.now (with_received s x)
+    → ChangesTable d e (store_schema way) meta_tree (meta_row current_number (x.number + 1) s.next_out ∷ [])
+    → Stands (VersionThree way) e.now (with_received s x)
 unfolding IsWhole
 stands_received way a d e s x it is small mid four =
     let k4 = keeping way AtMeta d.now.trees e.now.trees four.others in
@@ -122,7 +123,8 @@ pub adds : {S : Type 0} (g : Ghosts S) (old : Held S) (mid last : Connected) (x 
     → (HasCleanDisk mid → (way : Way) (s : State) → Stands (VersionThree way) (state g old).now s
     → IsEntered way mid.now s x.number s.next_in (with_received s x))
     → (HasCleanDisk last → (way : Way) (n m : ℕ) → HasCounters way mid.now n m → (x.number ≡ n)
-    × ChangesTable mid last (store_schema way) meta_tree (meta_row current_number (x.number + 1) m ∷ [])) → HasCleanDisk last → FollowsEach g old last (state_with x)
+    × ChangesTable mid last (store_schema way) meta_tree (meta_row current_number (x.number + 1) m ∷ [])) → HasCleanDisk last
+    → FollowsEach g old last (state_with x)
 adds g old mid last x small was opened put raised clean = record {
   was_open = opened (was clean);
   reaches = λ s r.

@@ -130,7 +130,8 @@ write_told next old new (Err e) (Ok x) Q is it = absurd is
 write_told next old new (Err e) (Err f) Q is it = record { clean = it.clean; was_open = it.was_open; is_open = it.is_open; done = it.done; failed = it.failed; crash = it.crash }
 
 -- seen from where the store is
-pub write_of : {A E : Type 0} (next : State → Option State) (inside outside new : Connected) (r : Result A E) → inside ≡ outside → WritesTables next inside new r
+pub write_of : {A E : Type 0} (next : State → Option State) (inside outside new : Connected) (r : Result A E) → inside ≡ outside
+    → WritesTables next inside new r
     → WritesTables next outside new r
 write_of next inside outside new r same it = subst (λ c. WritesTables next c new r) same it
 

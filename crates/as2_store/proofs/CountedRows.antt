@@ -31,7 +31,8 @@ finds_details old new rows h s r =
     (entries_rise out_row (λ (d : OutEntry). d.number) (λ _. refl) s.next_out s.outbox it.documents.1)
     ∙ each_shown (λ (d : OutEntry). d.detail) detail_row s.outbox
 
-pub finds_receipt_stages : (old new : Connected) (rows : List Row) → Shown receipt_stage_text [] old new rows → (s : State) → Rests old s → rows ≡ map receipt_stage_row (receipt_stages_of s)
+pub finds_receipt_stages : (old new : Connected) (rows : List Row) → Shown receipt_stage_text [] old new rows → (s : State) → Rests old s
+    → rows ≡ map receipt_stage_row (receipt_stages_of s)
 finds_receipt_stages old new rows h s r =
     let here = r.stands (shown_open receipt_stage_text [] old new rows h) in
     let way = here.way in

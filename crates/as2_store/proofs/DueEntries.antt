@@ -160,7 +160,8 @@ due_are_ended m s =
 
 -- ---- receipts
 
-receipt_begins : (receipt_stage : ReceiptStage) (attempt : Attempt) → receipt_may_begin receipt_stage attempt ≡ waits_for to_send_receipt (in_kind receipt_stage attempt)
+receipt_begins : (receipt_stage : ReceiptStage) (attempt : Attempt)
+    → receipt_may_begin receipt_stage attempt ≡ waits_for to_send_receipt (in_kind receipt_stage attempt)
 receipt_begins Pending Idle = refl
 receipt_begins Pending Running = refl
 receipt_begins Pending Last = refl

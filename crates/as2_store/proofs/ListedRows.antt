@@ -110,5 +110,6 @@ lists_none fits old new f survives same = record {
 }
 
 -- a step that leaves nothing more to a crash
-pub still_nothing : (old mid new : Connected) → Survives old mid (CommitsTables Some old) → Survives mid new (λ _. ⊥) → Survives old new (CommitsTables Some old)
+pub still_nothing : (old mid new : Connected) → Survives old mid (CommitsTables Some old) → Survives mid new (λ _. ⊥)
+    → Survives old new (CommitsTables Some old)
 still_nothing old mid new one two = survives_then old mid new (CommitsTables Some old) (λ _. ⊥) (CommitsTables Some old) (λ _ db is. is) (λ _ db none. absurd none) one two

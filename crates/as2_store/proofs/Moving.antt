@@ -40,7 +40,8 @@ Tells rows version next = (kind : List ℕ) (said n m : ℕ) → rows ≡ meta_c
 pub moves_each : {S : Type 0} (g : Ghosts S) (old : Held S) (mid last : Connected) (rows : List Row) (version next : ℕ)
     → (HasCleanDisk last → HasCleanDisk mid) → (HasCleanDisk mid → Shown meta_read_text [] (state g (record old { in_transaction = true })) mid rows)
     → Tells rows version next
-    → (HasCleanDisk last → (layout : Layout) (s : State) → Stands layout mid.now s → number_of layout ≡ version → next ≡ s.next_in → StandsForMigrated layout last.now s)
+    → (HasCleanDisk last → (layout : Layout) (s : State) → Stands layout mid.now s → number_of layout ≡ version → next ≡ s.next_in
+    → StandsForMigrated layout last.now s)
     → HasCleanDisk last → MovesEach g old last
 unfolding says_of
 moves_each g old mid last rows version next was shows told moved clean =
@@ -56,7 +57,8 @@ moves_each g old mid last rows version next was shows told moved clean =
           moved clean layout s (subst (λ (d : Database). Stands layout d s) (sym same.0.now_is) stood) says.1 says.2;
     }
 
-next_kept : (layout : Layout) (d : Database) (s : State) (db : Trees) → db ≡ d.trees → StandsForMigrated layout d s → KeepsNextTables db (migrated_from layout s)
+next_kept : (layout : Layout) (d : Database) (s : State) (db : Trees) → db ≡ d.trees → StandsForMigrated layout d s
+    → KeepsNextTables db (migrated_from layout s)
 next_kept layout d s db is it = record { state = it.state; is = it.is; keeps = subst (λ (t : Trees). Keeps t it.state) (sym is) (keeps_of d it.state it.holds) }
 
 pub moved_commits : {S : Type 0} (g : Ghosts S) (old : Held S) (last : Connected) → MovesEach g old last → (db : Trees) → db ≡ last.now.trees

@@ -133,7 +133,8 @@ same_pieces : (n : ℕ) (p : ReceiptProgress) (es : List InEntry) → inbox_piec
 same_pieces n p [] = refl
 same_pieces n p (e ∷ es) = ap₂ ◌++◌ (by_case (e.number == n)) (same_pieces n p es)
   where
-    by_case : (t : Bool) → pieces (cond t (with_receipt_progress p e) e).number (cond t (with_receipt_progress p e) e).posted.content ≡ pieces e.number e.posted.content
+    by_case : (t : Bool)
+        → pieces (cond t (with_receipt_progress p e) e).number (cond t (with_receipt_progress p e) e).posted.content ≡ pieces e.number e.posted.content
     by_case true = refl
     by_case false = refl
 
@@ -181,7 +182,8 @@ stands_owed way a b c s n w p within it some one two =
     }
 
 -- and where none has it, the state is as it was
-pub nothing_owed : (s : State) (n : ℕ) (p : ReceiptProgress) → length (filter (λ (e : InEntry). e.number == n) s.inbox) ≡ 0 → change_received s n (with_receipt_progress p) ≡ s
+pub nothing_owed : (s : State) (n : ℕ) (p : ReceiptProgress) → length (filter (λ (e : InEntry). e.number == n) s.inbox) ≡ 0
+    → change_received s n (with_receipt_progress p) ≡ s
 nothing_owed s n p none = ap (λ es. record s { inbox = es }) (changed_none in_number n (with_receipt_progress p) s.inbox (none_numbered in_number n s.inbox none))
 
 -- the tables then stand for what they stood for

@@ -37,7 +37,8 @@ one_more_passed detail ns i none within [] = refl
 one_more_passed detail ns i none within (d ∷ ds) =
     ap₂ ◌∷◌ (by (list_any (λ k. d.number == k) (take i ns)) ∙ ap (λ t. cond t (passed_document d (Some detail)) d) (sym (list_any_more (λ k. d.number == k) ns i none within))) (one_more_passed detail ns i none within ds)
   where
-    twice : (t : Bool) → cond t (passed_document (passed_document d (Some detail)) (Some detail)) (passed_document d (Some detail)) ≡ passed_document d (Some detail)
+    twice : (t : Bool)
+        → cond t (passed_document (passed_document d (Some detail)) (Some detail)) (passed_document d (Some detail)) ≡ passed_document d (Some detail)
     twice true = refl
     twice false = refl
 
@@ -110,7 +111,8 @@ module _ (detail : Detail) (q : OutEntry → Bool) where
   same_pieces [] = refl
   same_pieces (d ∷ ds) = ap₂ ◌++◌ (by (q d)) (same_pieces ds)
     where
-      by : (t : Bool) → pieces (cond t (passed_document d (Some detail)) d).number (cond t (passed_document d (Some detail)) d).content ≡ pieces d.number d.content
+      by : (t : Bool)
+          → pieces (cond t (passed_document d (Some detail)) d).number (cond t (passed_document d (Some detail)) d).content ≡ pieces d.number d.content
       by true = refl
       by false = refl
 

@@ -304,7 +304,8 @@ module _ (number tries : ℕ) where
   tells s b = (p : OutEntry → Bool) (d : OutEntry) → find p s.outbox ≡ Some d → number ≡ d.number → tries ≡ d.tries → b ≡ d.begun
 
   -- its tries tell
-  pub tells_by_tries : {E : Type 0} (old : Connected) → (HasCleanDisk old → IsTrue old.is_open) → nat_le 1 tries ≡ true → ReadsTables {E = E} tells old old (Ok true)
+  pub tells_by_tries : {E : Type 0} (old : Connected) → (HasCleanDisk old → IsTrue old.is_open) → nat_le 1 tries ≡ true
+      → ReadsTables {E = E} tells old old (Ok true)
   tells_by_tries old opened some =
       reads_standing (λ s b. b ≡ true) tells old old (Ok true)
       (λ s b here is p d found one two. is ∙ tried_is_begun old s here.stands p d found (subst (λ t. nat_le 1 t ≡ true) two some))

@@ -202,5 +202,6 @@ queues_one n m s = ap (λ ds. record s { outbox = ds }) (each s.outbox)
 pub queues : (n m : ℕ) → set_out_in n (anew m) ≡ resent_in n m
 queues n m = λ i s. option_map (λ _. queues_one n m s i) (document s n)
 
-pub queued : {A E : Type 0} (n m : ℕ) (old new : Connected) (r : Result A E) → WritesTables (set_out_in n (anew m)) old new r → WritesTables (resent_in n m) old new r
+pub queued : {A E : Type 0} (n m : ℕ) (old new : Connected) (r : Result A E) → WritesTables (set_out_in n (anew m)) old new r
+    → WritesTables (resent_in n m) old new r
 queued n m old new r it = subst (λ next. WritesTables next old new r) (queues n m) it

@@ -201,7 +201,8 @@ given a s n d it found =
 
 -- what waits is untouched by the first two statements
 pub still_holds : (way : Way) (a b c : Connected) (s : State) → Stands (VersionThree way) a.now s → (documents receipts : List Row)
-    → ChangesTable a b (store_schema way) outbox_tree documents → ChangesTable b c (store_schema way) evidence_tree receipts → HoldsWaiting way c.now (all_waiting s)
+    → ChangesTable a b (store_schema way) outbox_tree documents → ChangesTable b c (store_schema way) evidence_tree receipts
+    → HoldsWaiting way c.now (all_waiting s)
 still_holds way a b c s it documents receipts one two = record {
   schema = two.schema_is;
   rows = two.others.1.1.1.1.1.1.0 (λ e. omega arith) ∙ one.others.1.1.1.1.1.1.0 (λ e. omega arith) ∙ it.entries.waits;
@@ -262,7 +263,8 @@ pub ends : {S : Type 0} (g : Ghosts S) (old : Held S) (one two last : Connected)
     → (HasCleanDisk two → (way : Way) → one.now.schema ≡ store_schema way
     → ChangesTable one two (store_schema way) evidence_tree (put_row (evidence_row w e) (one.now.trees evidence_tree))
     × (are_fresh (one.now.trees evidence_tree) (evidence_row w e ∷ []) ≡ true))
-    → (HasCleanDisk last → (way : Way) (ws : List WaitingRow) → HoldsWaiting way two.now ws → RenewsWaiting way two last (map waiting_row (without_document w ws)))
+    → (HasCleanDisk last → (way : Way) (ws : List WaitingRow) → HoldsWaiting way two.now ws
+    → RenewsWaiting way two last (map waiting_row (without_document w ws)))
     → HasCleanDisk last → FollowsEach g old last (settled_in n detail e)
 ends g old one two last n w detail e by beyond within count some was_one was_two opened set put taken clean =
     let begun = state g (record old { in_transaction = true }) in

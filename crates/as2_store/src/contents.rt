@@ -102,7 +102,8 @@ pub fn out_piece_rows<S: Alter>(conn: &mut Connection<S>, number: u64) -> Result
     requires autocommit { conn.old.in_transaction ≡ false }
     requires number { number < 2 ^ 63 }
     ensures autocommit { conn.new.in_transaction ≡ false }
-    ensures rows { ReadsTables (λ s rows. (p : Document → Bool) (d : Document) → find p s.outbox ≡ Some d → number ≡ d.number
+    ensures rows { ReadsTables (λ s rows. (p : Document → Bool) (d : Document) → find p s.outbox ≡ Some d
+        → number ≡ d.number
         → rows.items
         ≡ map piece_shown (pieces d.number d.content)) (state S.Store conn.old) (state S.Store conn.new) result }
 {

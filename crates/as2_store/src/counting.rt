@@ -53,7 +53,8 @@ fn detail_of(row: &Row) -> Result<Detail, StoreFault>
 
 /// How the receipt stands that a row shows.
 fn receipt_stage_of(row: &Row) -> Result<ReceiptStage, StoreFault>
-    ensures shown { IfOk result (λ receipt_stage. (m : ReceiptStage) → row.now ≡ receipt_stage_row m → receipt_stage ≡ m) }
+    ensures shown { IfOk result (λ receipt_stage. (m : ReceiptStage) → row.now ≡ receipt_stage_row m
+        → receipt_stage ≡ m) }
     ensures fault { IfErr result (λ f. may_come f ≡ true) }
 {
     let code: i64 = row.get(0).map_err(fault_of)?;
@@ -78,7 +79,8 @@ fn details_in(alloc: Global, rows: &[Row]) -> Result<Vec<Detail>, StoreFault>
 
 /// How the receipts stand that the rows show.
 fn receipt_stages_in(alloc: Global, rows: &[Row]) -> Result<Vec<ReceiptStage>, StoreFault>
-    ensures shown { IfOk result (λ receipt_stages. (ms : List ReceiptStage) → rows.now ≡ map receipt_stage_row ms → receipt_stages.items ≡ ms) }
+    ensures shown { IfOk result (λ receipt_stages. (ms : List ReceiptStage) → rows.now ≡ map receipt_stage_row ms
+        → receipt_stages.items ≡ ms) }
     ensures fault { IfErr result (λ f. may_come f ≡ true) }
 {
     let mut receipt_stages = Vec::new(alloc);
@@ -105,10 +107,14 @@ pub fn details<S: Alter>(conn: &mut Connection<S>, alloc: Global) -> Result<Vec<
 }
 
 /// How the receipts for all received documents stand, in order of number.
-pub fn receipt_stages<S: Alter>(conn: &mut Connection<S>, alloc: Global) -> Result<Vec<ReceiptStage>, StoreFault>
+pub fn receipt_stages<S: Alter>(
+    conn: &mut Connection<S>,
+    alloc: Global,
+) -> Result<Vec<ReceiptStage>, StoreFault>
     requires autocommit { conn.old.in_transaction ≡ false }
     ensures autocommit { conn.new.in_transaction ≡ false }
-    ensures receipt_stages { ReadsTables (λ s receipt_stages. receipt_stages.items ≡ receipt_stages_of s) (state S.Store conn.old) (state S.Store conn.new) result }
+    ensures receipt_stages { ReadsTables (λ s receipt_stages. receipt_stages.items
+        ≡ receipt_stages_of s) (state S.Store conn.old) (state S.Store conn.new) result }
     ensures fault { IfErr result (λ f. may_come f ≡ true) }
 {
     let rows = receipt_stage_rows(conn).map_err(fault_of)?;
@@ -140,12 +146,16 @@ fn in_state(details: &[Detail], wanted: DetailClass) -> u64
 fn pending(receipt_stages: &[ReceiptStage]) -> u64
     ensures { result ≡ count_by is_pending receipt_stages.now }
 {
-    receipt_stages.iter().filter(|it| **it == ReceiptStage::Pending).count() as u64
+    receipt_stages
+        .iter()
+        .filter(|it| **it == ReceiptStage::Pending)
+        .count() as u64
 }
 
 /// The counts of documents of these details, and of receipts that stand so.
 pub fn counted(details: &[Detail], receipt_stages: &[ReceiptStage]) -> Counts
-    ensures { (s : State) → details.now ≡ details_of s → receipt_stages.now ≡ receipt_stages_of s → result ≡ counts_of s }
+    ensures { (s : State) → details.now ≡ details_of s → receipt_stages.now ≡ receipt_stages_of s
+        → result ≡ counts_of s }
 {
     Counts {
         not_sent: unsent(details),

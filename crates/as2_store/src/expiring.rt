@@ -81,7 +81,8 @@ fn pass_each<S: Alter>(
     ensures put { HasCleanDisk (state S.Store tx.new.conn.now)
         → OnOk result ((way : Way) (ns : List ℕ) (ds : List Document) → AllByRecursion (λ n. n < end_of_numbers) ns
         → rows.now ≡ map number_row ns → HoldsDocuments way (state S.Store tx.old.conn.now).now ds
-        → RewritesDocuments way (state S.Store tx.old.conn.now) (state S.Store tx.new.conn.now) (passed_documents detail ns ds)) }
+        → RewritesDocuments way (state S.Store tx.old.conn.now) (state S.Store tx.new.conn.now)
+        (passed_documents detail ns ds)) }
 {
     'rows: for row in rows {
         let number: u64 = row.get(0)?;
@@ -149,7 +150,8 @@ pub fn expire<S: Alter>(conn: &mut Connection<S>, moment: Moment) -> Result<u64,
     requires autocommit { conn.old.in_transaction ≡ false }
     ensures autocommit { conn.new.in_transaction ≡ false }
     ensures passed { WritesTables (ticked_in moment) (state S.Store conn.old) (state S.Store conn.new) result }
-    ensures counted { HasCleanDisk (state S.Store conn.new) → IfOk result (TicksTablesAs moment (state S.Store conn.old)) }
+    ensures counted { HasCleanDisk (state S.Store conn.new)
+        → IfOk result (TicksTablesAs moment (state S.Store conn.old)) }
 {
     let mut tx = conn.transaction();
     let overdue = pass_due(&mut tx, Wait::ToHear, Detail::Overdue, moment)?;

@@ -16,7 +16,9 @@ ghost use Rattle.as2_exchange.specs.State.{has_key};
 use crate::numbers::{asked, whole, whole_or_none};
 use crate::reading::query_all;
 use as2_exchange::InEntry;
-use as2_rows::{attempt_code, digest_of, how_code, receipt_stage_code, mic_of, outcome_code, url_of};
+use as2_rows::{
+    attempt_code, digest_of, how_code, mic_of, outcome_code, receipt_stage_code, url_of,
+};
 use sqlite::{Alter, Connection, Error, Row, Transaction, params};
 
 /// Puts in the row of an entry.
@@ -29,7 +31,8 @@ pub fn put_in<S: Alter>(tx: &mut Transaction<'_, S>, entry: &InEntry) -> Result<
         → OnOk result (IsTrue (state S.Store tx.old.conn.now).is_open) }
     ensures put { HasCleanDisk (state S.Store tx.new.conn.now)
         → OnOk result ((way : Way) → (state S.Store tx.old.conn.now).now.schema ≡ store_schema way
-        → ChangesTable (state S.Store tx.old.conn.now) (state S.Store tx.new.conn.now) (store_schema way) (inbox_tree way)
+        → ChangesTable (state S.Store tx.old.conn.now) (state S.Store tx.new.conn.now) (store_schema way)
+        (inbox_tree way)
         (put_row (in_row entry.now) ((state S.Store tx.old.conn.now).now.trees (inbox_tree way)))) }
 {
     let posted = &entry.posted;

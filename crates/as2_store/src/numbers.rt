@@ -8,7 +8,7 @@ ghost use Rattle.as2_store.specs.Progressing.{FitsProgress};
 
 use as2_exchange::END_OF_NUMBERS;
 use as2_mic::Pieces;
-use as2_records::{ReceiptProgress, Progress};
+use as2_records::{Progress, ReceiptProgress};
 use std::cmp::min;
 
 /// The greatest number that fits into a column.

@@ -24,7 +24,8 @@ pub fn put_origin<S: Alter>(tx: &mut Transaction<'_, S>, number: u64) -> Result<
     ensures put { HasCleanDisk (state S.Store tx.new.conn.now)
         → OnOk result ((way : Way) → (state S.Store tx.old.conn.now).now.schema ≡ store_schema way
         → (state S.Store tx.old.conn.now).now.trees (origin_tree way) ≡ []
-        → ChangesTable (state S.Store tx.old.conn.now) (state S.Store tx.new.conn.now) (store_schema way) (origin_tree way)
+        → ChangesTable (state S.Store tx.old.conn.now) (state S.Store tx.new.conn.now) (store_schema way)
+        (origin_tree way)
         (origin_row number ∷ [])) }
 {
     let number = whole(number);

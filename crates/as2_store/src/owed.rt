@@ -34,7 +34,8 @@ fn set_receipt_row<S: Alter>(
     ensures put { HasCleanDisk (state S.Store tx.new.conn.now)
         → IfOk result (λ count. (way : Way) (s : State)
         → Stands (VersionThree way) (state S.Store tx.old.conn.now).now s
-        → ChangesTable (state S.Store tx.old.conn.now) (state S.Store tx.new.conn.now) (store_schema way) (inbox_tree way)
+        → ChangesTable (state S.Store tx.old.conn.now) (state S.Store tx.new.conn.now) (store_schema way)
+        (inbox_tree way)
         (map in_row (change_received s number (with_receipt_progress progress)).inbox)
         × (count ≡ length (filter (λ e. e.number == number) s.inbox))) }
 {
@@ -63,7 +64,8 @@ pub fn set<S: Alter>(
     requires autocommit { conn.old.in_transaction ≡ false }
     requires fits { FitsReceipt progress }
     ensures autocommit { conn.new.in_transaction ≡ false }
-    ensures set { WritesTables (set_receipt_in number progress) (state S.Store conn.old) (state S.Store conn.new) result }
+    ensures set { WritesTables (set_receipt_in number progress) (state S.Store conn.old) (state S.Store conn.new)
+        result }
 {
     let mut tx = conn.transaction();
     if set_receipt_row(&mut tx, number, progress)? == 0 {

@@ -47,7 +47,8 @@ fn take_resent<S: Alter>(tx: &mut Transaction<'_, S>, number: u64) -> Result<(),
     ensures within { IsInside (state S.Store tx.old.conn.now) (state S.Store tx.new.conn.now) }
     ensures put { HasCleanDisk (state S.Store tx.new.conn.now)
         → OnOk result ((way : Way) (ns : List ℕ) → HoldsResent way (state S.Store tx.old.conn.now).now ns
-        → ChangesTable (state S.Store tx.old.conn.now) (state S.Store tx.new.conn.now) (store_schema way) (resent_tree way)
+        → ChangesTable (state S.Store tx.old.conn.now) (state S.Store tx.new.conn.now) (store_schema way)
+        (resent_tree way)
         (map resent_row (filter (λ n. not (n == number)) ns))) }
 {
     let number = whole(number);
@@ -62,7 +63,8 @@ fn put_resent<S: Alter>(tx: &mut Transaction<'_, S>, number: u64) -> Result<(), 
     ensures within { IsInside (state S.Store tx.old.conn.now) (state S.Store tx.new.conn.now) }
     ensures put { HasCleanDisk (state S.Store tx.new.conn.now)
         → OnOk result ((way : Way) → (state S.Store tx.old.conn.now).now.schema ≡ store_schema way
-        → ChangesTable (state S.Store tx.old.conn.now) (state S.Store tx.new.conn.now) (store_schema way) (resent_tree way)
+        → ChangesTable (state S.Store tx.old.conn.now) (state S.Store tx.new.conn.now) (store_schema way)
+        (resent_tree way)
         (put_row (resent_row number) ((state S.Store tx.old.conn.now).now.trees (resent_tree way)))) }
 {
     let number = whole(number);
@@ -112,7 +114,8 @@ fn resent_rows<S: Alter>(conn: &mut Connection<S>, number: u64) -> Result<Vec<Ro
     requires autocommit { conn.old.in_transaction ≡ false }
     requires number { number < 2 ^ 63 }
     ensures autocommit { conn.new.in_transaction ≡ false }
-    ensures rows { ReadsTables (λ s rows. (p : Document → Bool) (d : Document) → find p s.outbox ≡ Some d → number ≡ d.number
+    ensures rows { ReadsTables (λ s rows. (p : Document → Bool) (d : Document) → find p s.outbox ≡ Some d
+        → number ≡ d.number
         → d.begun ≡ (nat_le 1 d.tries || has_row rows.items)) (state S.Store conn.old) (state S.Store conn.new) result }
 {
     let number = whole(number);

@@ -62,7 +62,8 @@ pub fn settle<S: Alter>(
     requires by_receipt { is_by_receipt detail ≡ true }
     requires body { body.now ≡ evidence.now.body }
     ensures autocommit { conn.new.in_transaction ≡ false }
-    ensures settled { WritesTables (settled_in number detail evidence.now) (state S.Store conn.old) (state S.Store conn.new)
+    ensures settled { WritesTables (settled_in number detail evidence.now) (state S.Store conn.old)
+        (state S.Store conn.new)
         result }
 {
     let wanted = asked(number);

@@ -36,7 +36,7 @@ use crate::expiring::expire;
 use crate::fault::fault_of;
 use crate::inbox::rows_by_key;
 use crate::migrating::migrate;
-use crate::numbers::{fits, fits_receipt, fits_progress};
+use crate::numbers::{fits, fits_progress, fits_receipt};
 use crate::origin::{origin_in, origin_rows};
 use crate::outbox::rows_by_id;
 use crate::progress::set;
@@ -45,10 +45,10 @@ use crate::settling::settle;
 use crate::submitting::{add_document, is_begun_by_tries};
 use crate::{inbox, listing, outbox, owed};
 use as2_exchange::{
-    Attempt, END_OF_NUMBERS, Evidence, InEntry, ReceiptStage, OutEntry, StoreFault, is_by_receipt,
+    Attempt, END_OF_NUMBERS, Evidence, InEntry, OutEntry, ReceiptStage, StoreFault, is_by_receipt,
 };
 use as2_mdn::{Detail, DetailClass};
-use as2_records::{Counts, Discrepancy, InRow, ReceiptProgress, NextNumbers, OutRow, Progress};
+use as2_records::{Counts, Discrepancy, InRow, NextNumbers, OutRow, Progress, ReceiptProgress};
 use as2_rows::Wait;
 use as2_text::{AsName, Moment};
 use sqlite::{Alter, Connection};
@@ -137,7 +137,8 @@ impl<S: Alter> Store<S> {
 
     /// The numbers that the next entries get.
     pub fn next_numbers(&mut self) -> Result<NextNumbers, StoreFault>
-        ensures numbers { ReadsTables (λ s next. AreNext next s) (state S.Store self.old) (state S.Store self.new) result }
+        ensures numbers { ReadsTables (λ s next. AreNext next s) (state S.Store self.old) (state S.Store self.new)
+            result }
         ensures fault { IfErr result (λ f. may_come f ≡ true) }
     {
         next_numbers(&mut self.conn)
@@ -178,7 +179,8 @@ impl<S: Alter> Store<S> {
     /// Refused. A fault leaves the state.
     pub fn add_out(&mut self, entry: &OutEntry) -> Result<(), StoreFault>
         requires unsettled { entry.now.evidence ≡ None }
-        ensures added { WritesTables (added_document entry.now) (state S.Store self.old) (state S.Store self.new) result }
+        ensures added { WritesTables (added_document entry.now) (state S.Store self.old) (state S.Store self.new)
+            result }
         ensures full { IfErr result (λ f. f ≡ Full → end_of_numbers ≤ entry.now.number) }
         ensures full_alone { end_of_numbers ≤ entry.now.number → result ≡ Err Full }
         ensures full_same { end_of_numbers ≤ entry.now.number → self.new ≡ self.old }
@@ -199,7 +201,8 @@ impl<S: Alter> Store<S> {
     /// Sets the receipt of the entry of the inbox of this number, if there is one, to be sent from this moment on, with all
     /// tries left. Answers Memory, Disk or Refused, and then the state stays.
     pub fn requeue_receipt(&mut self, number: u64, moment: Moment) -> Result<(), StoreFault>
-        ensures requeued { WritesTables (requeued_in number moment) (state S.Store self.old) (state S.Store self.new) result }
+        ensures requeued { WritesTables (requeued_in number moment) (state S.Store self.old) (state S.Store self.new)
+            result }
         ensures fault { IfErr result (λ f. may_come f ≡ true) }
     {
         let anew = ReceiptProgress {
@@ -214,7 +217,8 @@ impl<S: Alter> Store<S> {
     /// Sets how far the receipt of the entry of the inbox of this number, if there is one, has come. Answers Memory, Disk or
     /// Refused, and then the state stays.
     pub fn set_receipt(&mut self, number: u64, progress: ReceiptProgress) -> Result<(), StoreFault>
-        ensures set { WritesTables (set_receipt_in number progress) (state S.Store self.old) (state S.Store self.new) result }
+        ensures set { WritesTables (set_receipt_in number progress) (state S.Store self.old) (state S.Store self.new)
+            result }
         ensures fault { IfErr result (λ f. may_come f ≡ true) }
     {
         if !fits_receipt(progress) {
@@ -237,7 +241,8 @@ impl<S: Alter> Store<S> {
     /// Sets how far the document of this number has come. Answers Refused where no document has the number; Memory, Disk or
     /// Refused; and then the state stays.
     pub fn set_out(&mut self, number: u64, progress: Progress) -> Result<(), StoreFault>
-        ensures set { WritesTables (set_out_in number progress) (state S.Store self.old) (state S.Store self.new) result }
+        ensures set { WritesTables (set_out_in number progress) (state S.Store self.old) (state S.Store self.new)
+            result }
         ensures fault { IfErr result (λ f. may_come f ≡ true) }
     {
         if !fits_progress(progress) {
@@ -249,7 +254,8 @@ impl<S: Alter> Store<S> {
     /// Queues the document of this number to be sent anew from this moment on, with all tries left. Answers Refused where no document
     /// has the number; Memory, Disk or Refused; and then the state stays.
     pub fn resend(&mut self, number: u64, moment: Moment) -> Result<(), StoreFault>
-        ensures resent { WritesTables (resent_in number moment) (state S.Store self.old) (state S.Store self.new) result }
+        ensures resent { WritesTables (resent_in number moment) (state S.Store self.old) (state S.Store self.new)
+            result }
         ensures fault { IfErr result (λ f. may_come f ≡ true) }
     {
         let anew = Progress {

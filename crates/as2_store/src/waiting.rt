@@ -18,7 +18,7 @@ ghost use Rattle.as2_store.specs.Settling.{place_of, without_document};
 use crate::numbers::{whole, whole_or_none};
 use as2_exchange::{Attempt, END_OF_NUMBERS, InEntry, ReceiptStage};
 use as2_mdn::Detail;
-use as2_records::{ReceiptProgress, Progress};
+use as2_records::{Progress, ReceiptProgress};
 use as2_rows::Wait;
 use sqlite::{Alter, Error, Transaction, params};
 
@@ -104,7 +104,8 @@ fn put_owed_waiting<S: Alter>(
         → OnOk result (IsTrue (state S.Store tx.new.conn.now).in_transaction) }
     ensures put { HasCleanDisk (state S.Store tx.new.conn.now)
         → OnOk result ((way : Way) → (state S.Store tx.old.conn.now).now.schema ≡ store_schema way
-        → NotesWaiting way (state S.Store tx.old.conn.now) (state S.Store tx.new.conn.now) (answers_at number progress)) }
+        → NotesWaiting way (state S.Store tx.old.conn.now) (state S.Store tx.new.conn.now)
+        (answers_at number progress)) }
 {
     if is_to_answer(progress.receipt_stage, progress.attempt) {
         put_waiting(tx, Wait::ToSendReceipt, number, progress.due)?;

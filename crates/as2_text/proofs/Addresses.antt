@@ -173,7 +173,8 @@ split_again authority (b ∷ rest) target lacks says =
       says = behind_said b rest target says;
     }
 
-rest_again : (authority behind target rest : List ℕ) → rest ≡ authority ++ behind → IsAuthority authority → SaysTarget behind target → address_in rest ≡ Some (authority, target)
+rest_again : (authority behind target rest : List ℕ) → rest ≡ authority ++ behind → IsAuthority authority → SaysTarget behind target
+    → address_in rest ≡ Some (authority, target)
 rest_again authority behind target rest e a t =
     let s : Splits (authority ++ behind) authority behind target = split_again authority behind target (no_slash authority a) t in
     rw (e, s.before, s.from, authority_again authority a, s.follows, s.says) refl

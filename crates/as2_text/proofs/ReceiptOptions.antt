@@ -20,7 +20,8 @@ abbrev more : Option ReceiptOption → List ReceiptOption → List ReceiptOption
 more None rest = rest
 more (Some option) rest = option ∷ rest
 
-more_of : (first : Option ReceiptOption) (texts : List (List ℕ)) → (text : List ℕ) → option_of text ≡ first → filter_map option_of (text ∷ texts) ≡ more first (filter_map option_of texts)
+more_of : (first : Option ReceiptOption) (texts : List (List ℕ)) → (text : List ℕ) → option_of text ≡ first
+    → filter_map option_of (text ∷ texts) ≡ more first (filter_map option_of texts)
 more_of None texts text e = rw e refl
 more_of (Some option) texts text e = rw e refl
 
@@ -36,7 +37,8 @@ abbrev first_option : Option ReceiptOption → Option ReceiptOption → Option R
 first_option None other = other
 first_option (Some option) other = Some option
 
-first_more : (name : List ℕ) (first : Option ReceiptOption) (rest : List ReceiptOption) → first_named name (more first rest) ≡ first_option (where_named name first) (first_named name rest)
+first_more : (name : List ℕ) (first : Option ReceiptOption) (rest : List ReceiptOption)
+    → first_named name (more first rest) ≡ first_option (where_named name first) (first_named name rest)
 first_more name None rest = refl
 first_more name (Some option) rest =
     elim (cases_Bool (has_name name option)) [
@@ -44,13 +46,16 @@ first_more name (Some option) rest =
       | inr f ↦ rw f refl
     ]
 
-first_cut : (name text before behind : List ℕ) → IsCutAt semicolon text before behind → first_named name (options_in text) ≡ first_option (where_named name (option_of before)) (first_named name (options_in behind))
+first_cut : (name text before behind : List ℕ) → IsCutAt semicolon text before behind
+    → first_named name (options_in text) ≡ first_option (where_named name (option_of before)) (first_named name (options_in behind))
 first_cut name text before behind c = ap (first_named name) (options_cut text before behind c) ∙ first_more name (option_of before) (options_in behind)
 
-pub first_found : (name text before behind : List ℕ) (option : ReceiptOption) → IsCutAt semicolon text before behind → where_named name (option_of before) ≡ Some option → first_named name (options_in text) ≡ Some option
+pub first_found : (name text before behind : List ℕ) (option : ReceiptOption) → IsCutAt semicolon text before behind
+    → where_named name (option_of before) ≡ Some option → first_named name (options_in text) ≡ Some option
 first_found name text before behind option c e = first_cut name text before behind c ∙ ap (λ (r : Option ReceiptOption). first_option r (first_named name (options_in behind))) e
 
-pub first_on : (name text before behind : List ℕ) → IsCutAt semicolon text before behind → where_named name (option_of before) ≡ None → first_named name (options_in behind) ≡ first_named name (options_in text)
+pub first_on : (name text before behind : List ℕ) → IsCutAt semicolon text before behind → where_named name (option_of before) ≡ None
+    → first_named name (options_in behind) ≡ first_named name (options_in text)
 first_on name text before behind c e = sym (first_cut name text before behind c ∙ ap (λ (r : Option ReceiptOption). first_option r (first_named name (options_in behind))) e)
 
 or_none : (first : Option ReceiptOption) → first_option first None ≡ first
@@ -70,17 +75,21 @@ found_any name (option ∷ rest) =
 
 -- ---- names that stand there twice
 
-distinct_more : (first : Option ReceiptOption) (rest : List ReceiptOption) → are_distinct (more first rest) ≡ (not (named_again first rest) && are_distinct rest)
+distinct_more : (first : Option ReceiptOption) (rest : List ReceiptOption)
+    → are_distinct (more first rest) ≡ (not (named_again first rest) && are_distinct rest)
 distinct_more None rest = refl
 distinct_more (Some option) rest = refl
 
-distinct_cut : (text before behind : List ℕ) → IsCutAt semicolon text before behind → are_distinct (options_in text) ≡ (not (named_again (option_of before) (options_in behind)) && are_distinct (options_in behind))
+distinct_cut : (text before behind : List ℕ) → IsCutAt semicolon text before behind
+    → are_distinct (options_in text) ≡ (not (named_again (option_of before) (options_in behind)) && are_distinct (options_in behind))
 distinct_cut text before behind c = ap are_distinct (options_cut text before behind c) ∙ distinct_more (option_of before) (options_in behind)
 
-pub twice_found : (text before behind : List ℕ) → IsCutAt semicolon text before behind → named_again (option_of before) (options_in behind) ≡ true → false ≡ are_distinct (options_in text)
+pub twice_found : (text before behind : List ℕ) → IsCutAt semicolon text before behind → named_again (option_of before) (options_in behind) ≡ true
+    → false ≡ are_distinct (options_in text)
 twice_found text before behind c e = sym (distinct_cut text before behind c ∙ ap (λ (t : Bool). not t && are_distinct (options_in behind)) e)
 
-pub distinct_on : (text before behind : List ℕ) → IsCutAt semicolon text before behind → named_again (option_of before) (options_in behind) ≡ false → are_distinct (options_in behind) ≡ are_distinct (options_in text)
+pub distinct_on : (text before behind : List ℕ) → IsCutAt semicolon text before behind → named_again (option_of before) (options_in behind) ≡ false
+    → are_distinct (options_in behind) ≡ are_distinct (options_in text)
 distinct_on text before behind c e = sym (distinct_cut text before behind c ∙ ap (λ (t : Bool). not t && are_distinct (options_in behind)) e)
 
 one_is_distinct : (first : Option ReceiptOption) → true ≡ are_distinct (more first [])
@@ -92,11 +101,13 @@ distinct_whole text lacks = one_is_distinct (option_of text) ∙ sym (ap are_dis
 
 -- ---- options that are required
 
-required_more : (first : Option ReceiptOption) (texts : List (List ℕ)) (text : List ℕ) → option_of text ≡ first → list_any is_other_required (filter_map option_of (text ∷ texts)) ≡ (is_required_other (option_of text) || list_any is_other_required (filter_map option_of texts))
+required_more : (first : Option ReceiptOption) (texts : List (List ℕ)) (text : List ℕ) → option_of text ≡ first
+    → list_any is_other_required (filter_map option_of (text ∷ texts)) ≡ (is_required_other (option_of text) || list_any is_other_required (filter_map option_of texts))
 required_more None texts text e = rw e refl
 required_more (Some option) texts text e = rw e refl
 
-pub required_among : (texts : List (List ℕ)) → list_any (λ text. is_required_other (option_of text)) texts ≡ list_any is_other_required (filter_map option_of texts)
+pub required_among : (texts : List (List ℕ))
+    → list_any (λ text. is_required_other (option_of text)) texts ≡ list_any is_other_required (filter_map option_of texts)
 required_among [] = refl
 required_among (text ∷ texts) = ap (λ (t : Bool). is_required_other (option_of text) || t) (required_among texts) ∙ sym (required_more (option_of text) texts text refl)
 
@@ -107,8 +118,10 @@ guarded true r option e = (refl, cc)
 guarded false r option e = absurd cc
 
 -- the option of a parameter that is cut at `=` and then at a comma
-with_found : (parameter : List ℕ) (named valued : List ℕ × List ℕ) (option : ReceiptOption) → IsCutAt equals_sign parameter named.0 named.1 → IsCutAt comma named.1 valued.0 valued.1
-    → (importance : Option Importance) → importance_of (without_blanks valued.0) ≡ importance → option_with (without_blanks named.0) importance valued.1 ≡ Some option → IsOption parameter option
+with_found : (parameter : List ℕ) (named valued : List ℕ × List ℕ) (option : ReceiptOption) → IsCutAt equals_sign parameter named.0 named.1
+    → IsCutAt comma named.1 valued.0 valued.1
+    → (importance : Option Importance) → importance_of (without_blanks valued.0) ≡ importance
+    → option_with (without_blanks named.0) importance valued.1 ≡ Some option → IsOption parameter option
 with_found parameter named valued option c d None i e = absurd cc
 with_found parameter named valued option c d (Some importance) i e =
     let name : List ℕ = without_blanks named.0 in
@@ -134,7 +147,8 @@ behind_found : (parameter : List ℕ) (named : List ℕ × List ℕ) (option : R
 behind_found parameter named option c None d e = absurd cc
 behind_found parameter named option c (Some valued) d e = with_found parameter named valued option c (cut_found comma named.1 valued d) (importance_of (without_blanks valued.0)) refl e
 
-cut_is_option : (parameter : List ℕ) (option : ReceiptOption) (cut : Option (List ℕ × List ℕ)) → cut_at equals_sign parameter ≡ cut → option_cut cut ≡ Some option → IsOption parameter option
+cut_is_option : (parameter : List ℕ) (option : ReceiptOption) (cut : Option (List ℕ × List ℕ)) → cut_at equals_sign parameter ≡ cut
+    → option_cut cut ≡ Some option → IsOption parameter option
 cut_is_option parameter option None c e = absurd cc
 cut_is_option parameter option (Some named) c e = behind_found parameter named option (cut_found equals_sign parameter named c) (cut_at comma named.1) refl e
 
@@ -161,7 +175,8 @@ none_when_empty parameter e = rw e refl
 skipped : (parameter : List ℕ) (rest : List (List ℕ)) → is_empty parameter ≡ true → filter_map option_of (parameter ∷ rest) ≡ filter_map option_of rest
 skipped parameter rest e = more_of None rest parameter (none_when_empty parameter e)
 
-read_next : (parameter : List ℕ) (rest : List (List ℕ)) (first : Option ReceiptOption) → option_of parameter ≡ first → is_some first ≡ true → is_empty parameter ≡ false
+read_next : (parameter : List ℕ) (rest : List (List ℕ)) (first : Option ReceiptOption) → option_of parameter ≡ first → is_some first ≡ true
+    → is_empty parameter ≡ false
     → AreOptions rest (filter_map option_of rest) → AreOptions (parameter ∷ rest) (filter_map option_of (parameter ∷ rest))
 read_next parameter rest None e h some others = absurd cc
 read_next parameter rest (Some option) e h some others =

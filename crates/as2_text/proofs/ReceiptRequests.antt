@@ -18,12 +18,14 @@ use Rattle.as2_text.specs.ReceiptRequests.{Fields, Request, IsGiven, SaysHow, As
 
 -- ---- the delivery option
 
-pub delivered_one : (told : Once) (text : Bor (List ℕ)) (vs : List (List ℕ)) (options : List ReceiptOption) → told ≡ once.One text → IsOnceOf told vs → with_address (url_of text.now) options ≡ request_to_addresses vs options
+pub delivered_one : (told : Once) (text : Bor (List ℕ)) (vs : List (List ℕ)) (options : List ReceiptOption) → told ≡ once.One text → IsOnceOf told vs
+    → with_address (url_of text.now) options ≡ request_to_addresses vs options
 delivered_one told text vs options e t = ap (λ (x : List (List ℕ)). request_to_addresses x options) (sym (subst (λ (o : Once). IsOnceOf o vs) e t))
 
 -- ---- a field that stands there
 
-pub asked_told : (told : Once) (vs : List (List ℕ)) (head : Fields) → IsOnceOf told vs → ((x : Bor (List ℕ)) × (told ≡ once.One x)) ⊎ (told ≡ once.Twice) → request_in_head head ≡ asked_where vs head
+pub asked_told : (told : Once) (vs : List (List ℕ)) (head : Fields) → IsOnceOf told vs → ((x : Bor (List ℕ)) × (told ≡ once.One x)) ⊎ (told ≡ once.Twice)
+    → request_in_head head ≡ asked_where vs head
 asked_told told vs head t (inl e) = ap (λ (x : List (List ℕ)). asked_where x head) (sym (subst (λ (o : Once). IsOnceOf o vs) e.1 t))
 asked_told told vs head t (inr e) =
     let more = subst (λ (o : Once). IsOnceOf o vs) e t in
@@ -44,7 +46,8 @@ are_once head h =
 
 -- ---- what is read is asked
 
-with_found : (text : List ℕ) (r : Option (List ℕ × List ℕ)) (options : List ReceiptOption) (request : Request) → url_of text ≡ r → with_address r options ≡ Ok request
+with_found : (text : List ℕ) (r : Option (List ℕ × List ℕ)) (options : List ReceiptOption) (request : Request) → url_of text ≡ r
+    → with_address r options ≡ Ok request
     → (url : List ℕ × List ℕ) × IsUrl text url × (request ≡ asked_by (how.Async url) options)
 with_found text None options request u e = absurd cc
 with_found text (Some url) options request u e = (url, url_found text url u, cc)
@@ -55,7 +58,8 @@ record IsRequestOf (vs : List (List ℕ)) (options : List ReceiptOption) (reques
   pub says : SaysHow vs delivery
   pub request_is : request ≡ asked_by delivery options
 
-delivered_found : (vs : List (List ℕ)) (options : List ReceiptOption) (request : Request) → is_given_twice vs ≡ false → request_to_addresses vs options ≡ Ok request → IsRequestOf vs options request
+delivered_found : (vs : List (List ℕ)) (options : List ReceiptOption) (request : Request) → is_given_twice vs ≡ false
+    → request_to_addresses vs options ≡ Ok request → IsRequestOf vs options request
 delivered_found [] options request one e = record { delivery = how.Sync; says = inl (refl, refl); request_is = cc }
 delivered_found (text ∷ []) options request one e =
     let f = with_found text (url_of text) options request refl e in
@@ -75,7 +79,8 @@ unless : (t : Bool) (e : AskFault) (r : Result Request AskFault) (request : Requ
 unless true e r request h = absurd cc
 unless false e r request h = (refl, h)
 
-asked_found : (head : Fields) (address : List ℕ) (request : Request) → notification_to head ≡ address ∷ [] → request_in_head head ≡ Ok request → AsksFor head request
+asked_found : (head : Fields) (address : List ℕ) (request : Request) → notification_to head ≡ address ∷ [] → request_in_head head ≡ Ok request
+    → AsksFor head request
 asked_found head address request to e =
     let text : List ℕ = text_of (notification_options head) in
     let outer = unless (has_twice head) fault.Twice _ request e in
@@ -110,7 +115,8 @@ given_again : (vs : List (List ℕ)) (text : List ℕ) → IsGiven vs text → (
 given_again vs text (inl g) = (ap is_given_twice g.0, ap text_of g.0 ∙ sym g.1)
 given_again vs text (inr g) = (ap is_given_twice g, ap text_of g)
 
-delivered_again : (vs : List (List ℕ)) (delivery : How) (options : List ReceiptOption) → SaysHow vs delivery → (is_given_twice vs ≡ false) × (request_to_addresses vs options ≡ Ok (asked_by delivery options))
+delivered_again : (vs : List (List ℕ)) (delivery : How) (options : List ReceiptOption) → SaysHow vs delivery → (is_given_twice vs ≡ false)
+    × (request_to_addresses vs options ≡ Ok (asked_by delivery options))
 delivered_again vs delivery options (inl s) = (ap is_given_twice s.0, ap (λ (x : List (List ℕ)). request_to_addresses x options) s.0 ∙ ap (λ (h : How). Ok (asked_by h options)) (sym s.1))
 delivered_again vs delivery options (inr s) = (
   ap is_given_twice s.2,
@@ -134,6 +140,7 @@ asks_again head request (inr a) = asked_again head request a
 
 -- ---- the same of what the code hands out
 
-pub shown_found : (head : Fields) (result : Result ReceiptAsk AskFault) → request_result result ≡ request_reading head → IfOk result (λ ask. Asks head (request_of ask))
+pub shown_found : (head : Fields) (result : Result ReceiptAsk AskFault) → request_result result ≡ request_reading head
+    → IfOk result (λ ask. Asks head (request_of ask))
 shown_found head (Ok ask) e = asks_found head (request_of ask) (sym e)
 shown_found head (Err f) e = tt

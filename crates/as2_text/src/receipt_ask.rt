@@ -85,7 +85,8 @@ fn is_twice(once: &Once<'_>) -> bool
 
 /// What the options ask of a receipt that comes as the delivery option says.
 fn delivered<'a>(delivery: &Once<'a>, options: &'a [u8]) -> Result<ReceiptAsk<'a>, AskFault>
-    ensures { (vs : List (List ℕ)) → IsOnceOf delivery.now vs → is_given_twice vs ≡ false → request_result result ≡ request_to_addresses vs (options_in options.now) }
+    ensures { (vs : List (List ℕ)) → IsOnceOf delivery.now vs → is_given_twice vs ≡ false
+        → request_result result ≡ request_to_addresses vs (options_in options.now) }
 {
     match delivery {
         Once::One(text) => match Url::parse(text) {

@@ -6,7 +6,7 @@ ghost use Rattle.as2_views.specs.RowLines.{in_row_line, out_row_line};
 
 use crate::pieces::{add_from_to, add_left, add_right, add_text, add_word};
 use as2_exchange::ReceiptStage;
-use as2_mdn::{Outcome, DetailClass};
+use as2_mdn::{DetailClass, Outcome};
 use as2_records::{InRow, OutRow};
 use as2_text::Memory;
 

@@ -1,6 +1,6 @@
 //! Receipts: their dispositions, what they say of a document, and the details that come of it.
 use crate::arguments::{Arguments, pieces_of, value_in};
-use as2_mdn::{Detail, Disposition, MicPart, Receipt, DetailClass, verdict, verdict_pieces};
+use as2_mdn::{Detail, DetailClass, Disposition, MicPart, Receipt, verdict, verdict_pieces};
 use as2_mic::MicField;
 use script_lines::Answer;
 

@@ -7,8 +7,8 @@ use as2_mic::{Alg, MicText, Pieces};
 use as2_records::{InRow, OutRow};
 use as2_rows::{
     EvidenceRow, RowFault, attempt_code, attempt_of_code, content_in, detail_code, detail_of_code,
-    digest_of, how_code, receipt_stage_code, receipt_stage_of_code, mic_of, outcome_code, outcome_of_code, read_in_row,
-    read_out_row, url_of,
+    digest_of, how_code, mic_of, outcome_code, outcome_of_code, read_in_row, read_out_row,
+    receipt_stage_code, receipt_stage_of_code, url_of,
 };
 use as2_text::{AsName, MessageId, Moment, Url};
 use script_lines::{Answer, Trouble};
@@ -365,7 +365,10 @@ fn meaning(column: &str, code: i64, answer: &mut Answer) -> Option<(&'static str
     match column {
         "outcome" => outcome_of_code(code).map(|x| (x.text(), outcome_code(x))),
         "detail" => detail_of_code(code).map(|x| (x.name(), detail_code(x))),
-        "receipt" => receipt_stage_of_code(code).map(|x| (receipt_stage_word(x), receipt_stage_code(x))),
+        "receipt" => receipt_stage_of_code(code).map(|x| (
+            receipt_stage_word(x),
+            receipt_stage_code(x),
+        )),
         "attempt" => attempt_of_code(code).map(|x| (attempt_word(x), attempt_code(x))),
         _ => {
             answer.lack("no column of codes");

@@ -1,5 +1,5 @@
 //! What entries are told by.
-use as2_exchange::{Attempt, ReceiptStage, ReceiptDelivery};
+use as2_exchange::{Attempt, ReceiptDelivery, ReceiptStage};
 use as2_mdn::ReceiptMic;
 use script_lines::Answer;
 

@@ -16,7 +16,8 @@ use Rattle.sql_tables.proofs.Writes.{went, same_value}
 
 module _ (text : List ℕ) (old new : State) (schema : Schema) (has : old.now.schema ≡ schema) (at : ℕ) (table : Table) (place : slice_get schema.tables at ≡ Some table)
     (index : Index) (defined : index_defined_by table text ≡ Ok index) (plain : IsPlain (understood schema text)) where
-  pub makes_index : command_of (understood schema text) ≡ CreateIndex at → statement_of text (understood schema text) ≡ text → (count : ℕ) → Executes text [] old new (Ok count)
+  pub makes_index : command_of (understood schema text) ≡ CreateIndex at → statement_of text (understood schema text) ≡ text → (count : ℕ)
+      → Executes text [] old new (Ok count)
       → AddsIndex old new schema (indexed schema table index)
   makes_index is whole count h =
       let w = subst (λ t. Writes old new None (CreateIndex at) t [] count) whole (runs_as text [] old new schema has (CreateIndex at) is plain count h) in

@@ -44,7 +44,8 @@ next_above : (r : ℤ × Row) (rs : List (ℤ × Row)) → IsTable (map numbered
 next_above r [] up = omega (arith, ints)
 next_above r (s ∷ rs) up = omega (arith, ints, below r.0 s.0 up.0.0, next_above s rs up.1)
 
-puts_last : (n : ℤ) (c : Row) (rs : List (ℤ × Row)) → IsTable (map numbered_row rs) → put_row (Int (next_from n rs) ∷ c) (map numbered_row rs) ≡ map numbered_row (rs ++ (next_from n rs, c) ∷ [])
+puts_last : (n : ℤ) (c : Row) (rs : List (ℤ × Row)) → IsTable (map numbered_row rs)
+    → put_row (Int (next_from n rs) ∷ c) (map numbered_row rs) ≡ map numbered_row (rs ++ (next_from n rs, c) ∷ [])
 puts_last n c [] up = refl
 puts_last n c (r ∷ rs) up =
     let next = next_from (r.0 +ℤ pos 1) rs in
@@ -90,9 +91,11 @@ module _ {X : Type 0} (cmp : X → X → Ordering) (total : IsTotalOrder cmp) wh
 -- ---- what a query shows
 
 -- in the order of a column: the rows that are chosen, where their values there differ
-pub shows_sorted : (tree : ℕ) (terms project : List Term) (at : ℕ) (db : Trees) (params : Row) (rows ordered : List Row) → IsPermutation (chosen_rows terms params (db tree)) ordered
+pub shows_sorted : (tree : ℕ) (terms project : List Term) (at : ℕ) (db : Trees) (params : Row) (rows ordered : List Row)
+    → IsPermutation (chosen_rows terms params (db tree)) ordered
     → IsAscending (λ a b. value_cmp (column a at) (column b at) ≡ Less) ordered
-    → IsSureAnswer (over_table tree terms project (by_column at) (lit (Int (negsuc 0)))) (overlay db []) params rows → rows ≡ map (shown_of project params) ordered
+    → IsSureAnswer (over_table tree terms project (by_column at) (lit (Int (negsuc 0)))) (overlay db []) params rows
+    → rows ≡ map (shown_of project params) ordered
 shows_sorted tree terms project at db params rows ordered same up sure =
     let q = over_table tree terms project (by_column at) (lit (Int (negsuc 0))) in
     let a = answered tree terms project (by_column at) (lit (Int (negsuc 0))) db params rows sure in
@@ -108,7 +111,8 @@ module _ {X : Type 0} (row : X → Row) where
   abbrev under : ℤ × X → Row
   under y = Int y.0 ∷ row y.1
 
-  entries_under : (rs : List (ℤ × Row)) (xs : List X) → map row xs ≡ map (λ r. r.1) rs → (ys : List (ℤ × X)) × (map numbered_row rs ≡ map under ys) × (xs ≡ map (λ y. y.1) ys)
+  entries_under : (rs : List (ℤ × Row)) (xs : List X) → map row xs ≡ map (λ r. r.1) rs → (ys : List (ℤ × X)) × (map numbered_row rs ≡ map under ys)
+      × (xs ≡ map (λ y. y.1) ys)
   entries_under [] [] e = ([], refl, refl)
   entries_under [] (x ∷ xs) e = absurd cc
   entries_under (r ∷ rs) [] e = absurd cc
@@ -117,14 +121,16 @@ module _ {X : Type 0} (row : X → Row) where
       let later = entries_under rs xs cc in
       ((r.0, x) ∷ later.0, (λ i. (Int r.0 ∷ head i) ∷ later.1 i), ap (λ l. x ∷ l) later.2)
 
-  numbered_entries : (rows : List Row) (xs : List X) → HasRows rows (map row xs) → (ys : List (ℤ × X)) × IsPermutation rows (map under ys) × (xs ≡ map (λ y. y.1) ys)
+  numbered_entries : (rows : List Row) (xs : List X) → HasRows rows (map row xs) → (ys : List (ℤ × X)) × IsPermutation rows (map under ys)
+      × (xs ≡ map (λ y. y.1) ys)
   numbered_entries rows xs h =
       let back = pull_back (λ (r : ℤ × Row). r.1) _ _ h.columns h.numbered refl in
       let it = entries_under back.0 xs back.2 in
       (it.0, subst (λ l. IsPermutation l (map under it.0)) (sym h.rows_are) (subst (IsPermutation (map numbered_row h.numbered)) it.1 (IsPermutation-map numbered_row _ _ back.1)), it.2)
 
 -- the same of a table that has the rows of entries, where the statement doesn't read their numbers
-pub shows_sorted_entries : (tree : ℕ) (terms project : List Term) (at : ℕ) (db : Trees) (params : Row) (rows : List Row) {X : Type 0} (row : X → Row) (p : X → Bool) (shown : X → Row)
+pub shows_sorted_entries : (tree : ℕ) (terms project : List Term) (at : ℕ) (db : Trees) (params : Row) (rows : List Row) {X : Type 0} (row : X → Row) (p : X
+    → Bool) (shown : X → Row)
     → ((n : ℤ) (x : X) → passes terms params (Int n ∷ row x) ≡ p x) → ((n : ℤ) (x : X) → shown_of project params (Int n ∷ row x) ≡ shown x)
     → (xs : List X) → HasRows (db tree) (map row xs) → IsAscending (λ a b. value_cmp (column (row a) at) (column (row b) at) ≡ Less) (filter p xs)
     → IsSureAnswer (over_table tree terms project (by_column (suc at)) (lit (Int (negsuc 0)))) (overlay db []) params rows → rows ≡ map shown (filter p xs)
