@@ -1,3 +1,5 @@
+//! Agreements as they are in force: the organizations, the partners and the limits.
+
 ghost use Rattle.std.specs.Prelude.{◌≡◌, ◌⊎◌, ℕ, ◌≤◌, List, length, option_map, IfOk, IfSome, Some, Ok, Err};
 ghost use Rattle.std.specs.List.{Contains};
 ghost use Rattle.toml.specs.View.{table_view};

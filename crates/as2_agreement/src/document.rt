@@ -1,3 +1,5 @@
+//! The members of a document of agreements that stand outside its entries.
+
 // The keys of a document besides the two arrays.
 ghost use Rattle.std.specs.Prelude.{◌≡◌, option_map, IfOk, IfSome};
 ghost use Rattle.toml.specs.View.{table_view};

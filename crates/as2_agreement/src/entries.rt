@@ -1,3 +1,5 @@
+//! The entries of the agreements, and how many there may be.
+
 // The entries of the two arrays.
 ghost use Rattle.std.specs.Prelude.{◌≡◌, []};
 ghost use Rattle.toml.specs.View.{view, items_view, table_view};

@@ -1,3 +1,5 @@
+//! Why a text has no agreements.
+
 ghost use Rattle.std.specs.Prelude.{◌≡◌};
 ghost use Rattle.as2_agreement.specs.Keys.{fault_name, fault_key};
 ghost use Rattle.as2_agreement.specs.declared.fault.AgreementFault.TheVariants.{Memory};

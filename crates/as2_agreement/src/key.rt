@@ -1,3 +1,5 @@
+//! The keys that a file of agreements may have.
+
 ghost use Rattle.std.specs.Prelude.{◌≡◌, Some};
 ghost use Rattle.as2_agreement.specs.Keys.{key_name};
 

@@ -1,3 +1,5 @@
+//! A partner, and what was agreed with it.
+
 use crate::texts::{ContentType, UrlText};
 use as2_mic::Alg;
 use as2_text::AsName;

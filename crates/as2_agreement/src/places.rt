@@ -1,3 +1,5 @@
+//! Where a fault of the agreements stands, so that an operator finds it.
+
 // Where the first fault of a text stands.
 ghost use Rattle.std.specs.Prelude.{◌≡◌, ◌≤◌, [], length, IfSome, Some, string_bytes};
 ghost use Rattle.toml.specs.View.{view, items_view, table_view};

@@ -1,3 +1,5 @@
+//! The terms of a partner, read from its table.
+
 // The keys of an organization's and of a partner's entry.
 ghost use Rattle.std.specs.Prelude.{◌≡◌, IfOk};
 ghost use Rattle.std.specs.List.{list_any};

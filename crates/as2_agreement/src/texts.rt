@@ -1,3 +1,5 @@
+//! Texts of the agreements: names, addresses and content types.
+
 ghost use Rattle.std.specs.Prelude.{◌≡◌, ℕ, List, IfOk, string_bytes};
 ghost use Rattle.as2_agreement.specs.Values.{IsAddress, IsContentType};
 

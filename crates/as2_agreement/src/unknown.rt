@@ -1,3 +1,5 @@
+//! Keys that no agreement has, which an operator is warned of.
+
 // Keys of a text that agreements don't have.
 ghost use Rattle.std.specs.Prelude.{◌≡◌, false, IfSome, string_bytes};
 ghost use Rattle.as2_agreement.specs.Unknown.{IsUnknown, is_known};

@@ -1,3 +1,5 @@
+//! Values of a table by their keys, each with its first fault.
+
 // What the keys of a table hold.
 ghost use Rattle.std.specs.Prelude.{◌≡◌, option_map};
 ghost use Rattle.toml.specs.Data.{as_table};

@@ -21,7 +21,7 @@ use Rattle.as2_commands.specs.declared.tasks.Question.{Question}
 use Rattle.as2_commands.specs.declared.tasks.Question.TheVariants as question
 use Rattle.as2_commands.specs.declared.tasks.RunOptions.{RunOptions}
 use Rattle.as2_commands.specs.declared.tasks.Task.{Task}
-use Rattle.as2_commands.specs.declared.tasks.Task.TheVariants.{Check, Migrate, Verify, Prove, Run}
+use Rattle.as2_commands.specs.declared.tasks.Task.TheVariants.{Check, Migrate, Verify, GatherEvidence, Run}
 use Rattle.as2_commands.specs.declared.tasks.ServingWaits.{ServingWaits}
 use Rattle.as2_commands.specs.declared.tasks.Waits.{Waits}
 
@@ -343,15 +343,15 @@ task_one values (Some named) clock (Verify run f) Migrate x y = absurd (migrate_
 task_one values (Some named) clock (Verify run f) (Verify other g) x y = ap₂ Verify (run_one values clock run other x.2 y.2) (format_one named.1 f g x.1 y.1)
 task_one values (Some named) clock (Verify run f) (Run other asked) x y = absurd (no_verify asked (sym x.0 ∙ y.0.0))
 task_one values (Some named) clock (Run run asked) (Verify other g) x y = absurd (no_verify asked (sym y.0 ∙ x.0.0))
-task_one values (Some named) clock Check (Prove run wanted) x y = absurd (check_evidence (sym x ∙ y.0))
-task_one values (Some named) clock Migrate (Prove run wanted) x y = absurd (migrate_evidence (sym x ∙ y.0))
-task_one values (Some named) clock (Verify run f) (Prove other wanted) x y = absurd (verify_evidence (sym x.0 ∙ y.0))
-task_one values (Some named) clock (Prove run wanted) Check x y = absurd (check_evidence (sym y ∙ x.0))
-task_one values (Some named) clock (Prove run wanted) Migrate x y = absurd (migrate_evidence (sym y ∙ x.0))
-task_one values (Some named) clock (Prove run wanted) (Verify other g) x y = absurd (verify_evidence (sym y.0 ∙ x.0))
-task_one values (Some named) clock (Prove run wanted) (Prove other later) x y = ap₂ Prove (run_one values clock run other x.2 y.2) (wanted_one named.1 wanted later x.1 y.1)
-task_one values (Some named) clock (Prove run wanted) (Run other asked) x y = absurd (no_evidence asked (sym x.0 ∙ y.0.0))
-task_one values (Some named) clock (Run run asked) (Prove other wanted) x y = absurd (no_evidence asked (sym y.0 ∙ x.0.0))
+task_one values (Some named) clock Check (GatherEvidence run wanted) x y = absurd (check_evidence (sym x ∙ y.0))
+task_one values (Some named) clock Migrate (GatherEvidence run wanted) x y = absurd (migrate_evidence (sym x ∙ y.0))
+task_one values (Some named) clock (Verify run f) (GatherEvidence other wanted) x y = absurd (verify_evidence (sym x.0 ∙ y.0))
+task_one values (Some named) clock (GatherEvidence run wanted) Check x y = absurd (check_evidence (sym y ∙ x.0))
+task_one values (Some named) clock (GatherEvidence run wanted) Migrate x y = absurd (migrate_evidence (sym y ∙ x.0))
+task_one values (Some named) clock (GatherEvidence run wanted) (Verify other g) x y = absurd (verify_evidence (sym y.0 ∙ x.0))
+task_one values (Some named) clock (GatherEvidence run wanted) (GatherEvidence other later) x y = ap₂ GatherEvidence (run_one values clock run other x.2 y.2) (wanted_one named.1 wanted later x.1 y.1)
+task_one values (Some named) clock (GatherEvidence run wanted) (Run other asked) x y = absurd (no_evidence asked (sym x.0 ∙ y.0.0))
+task_one values (Some named) clock (Run run asked) (GatherEvidence other wanted) x y = absurd (no_evidence asked (sym y.0 ∙ x.0.0))
 task_one values (Some named) clock Check (Run run asked) x y = absurd (no_check asked (sym x ∙ y.0.0))
 task_one values (Some named) clock (Run run asked) Check x y = absurd (no_check asked (sym y ∙ x.0.0))
 task_one values (Some named) clock (Run run asked) (Run other later) x y =

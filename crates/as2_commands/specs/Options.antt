@@ -20,7 +20,7 @@ use Rattle.as2_commands.specs.declared.tasks.Question.{Question}
 use Rattle.as2_commands.specs.declared.tasks.Question.TheVariants.{Submit, Tick, Resend, List as Listing, Outstanding, Show, Fetch}
 use Rattle.as2_commands.specs.declared.tasks.RunOptions.{RunOptions}
 use Rattle.as2_commands.specs.declared.tasks.Task.{Task}
-use Rattle.as2_commands.specs.declared.tasks.Task.TheVariants.{Check, Migrate, Verify, Prove, Run}
+use Rattle.as2_commands.specs.declared.tasks.Task.TheVariants.{Check, Migrate, Verify, GatherEvidence, Run}
 
 -- the text says the number in decimal digits; a plus may stand before them
 abbrev pub Says : Text → ℕ → Type 0
@@ -180,7 +180,7 @@ Tasks values None clock task = ⊥
 Tasks values (Some command) clock Check = command.0 ≡ codes "check"
 Tasks values (Some command) clock Migrate = command.0 ≡ codes "migrate"
 Tasks values (Some command) clock (Verify options form) = (command.0 ≡ codes "verify") × IsFormat command.1 form × AsksRun values clock options
-Tasks values (Some command) clock (Prove options wanted) = (command.0 ≡ codes "evidence") × AsksEvidence command.1 wanted × AsksRun values clock options
+Tasks values (Some command) clock (GatherEvidence options wanted) = (command.0 ≡ codes "evidence") × AsksEvidence command.1 wanted × AsksRun values clock options
 Tasks values (Some command) clock (Run options asked) = Commands values command.0 command.1 asked × AsksRun values clock options
 
 -- the paths of the file of agreements and of the store, and what is asked for

@@ -166,8 +166,8 @@ A line of 'in' has the number, 'S' where the document was processed, else 'E', t
 for ('-' none, 'P' not sent yet, 'S' sent), 'SENDER -> RECEIVER' and the identifier. '--state' isn't
 looked at there.
 
-With '--format json' each line is an object: 'box', 'number', 'from', 'to', 'receipt', and of 'out' also
-'state', 'detail' and 'tries', of 'in' also 'identifier' and 'processed'.
+With '--format json' each line is an object: 'box', 'number', 'from', 'to' and 'identifier', of 'out' also
+'state', 'detail', 'tries' and 'settled', of 'in' also 'processed' and 'receipt'.
 
 A listing that can't be written is 'refused: CannotWrite' on standard error, exit status 1. A fault of
 the store is 'store: NAME', exit status 3. Nothing is changed.

@@ -23,8 +23,8 @@ use crate::fault::OptionFault;
 use crate::first_number::FirstNumber;
 use crate::own::{CHECK, EVIDENCE, MIGRATE, VERIFY};
 use crate::tasks::{
-    Command, Format, Options, Question, RunOptions, Serving, ServingWaits, Submission, Task, Waits,
-    Wanted,
+    Command, EvidenceRequest, Format, Options, Question, RunOptions, Serving, ServingWaits,
+    Submission, Task, Waits,
 };
 use as2_audit::Mailbox;
 use as2_exchange::END_OF_NUMBERS;
@@ -95,7 +95,7 @@ fn asked<'a>(found: &ArgMatches<'a>, clock: Option<u64>) -> Result<Task<'a>, Opt
     }
     if word == EVIDENCE {
         let wanted = wanted(own)?;
-        return Ok(Task::Prove(run_options(found, clock)?, wanted));
+        return Ok(Task::GatherEvidence(run_options(found, clock)?, wanted));
     }
     let command = command_of(found, word, own)?;
     Ok(Task::Run(run_options(found, clock)?, command))
@@ -196,7 +196,7 @@ fn box_of(received: bool) -> Mailbox
 }
 
 /// Which document is to be proved, and where the files go.
-fn wanted<'a>(own: &ArgMatches<'a>) -> Result<Wanted<'a>, OptionFault<'a>>
+fn wanted<'a>(own: &ArgMatches<'a>) -> Result<EvidenceRequest<'a>, OptionFault<'a>>
     ensures given { IfOk result (AsksEvidence (rows_of (found_of own.now))) }
     ensures none { IfErr result (λ _. (w : TheWanted) → ¬ AsksEvidence (rows_of (found_of own.now)) w) }
 {
@@ -204,7 +204,7 @@ fn wanted<'a>(own: &ArgMatches<'a>) -> Result<Wanted<'a>, OptionFault<'a>>
     let Some(folder) = text(own, OUT) else {
         return Err(OptionFault::NoValue(OUT));
     };
-    Ok(Wanted {
+    Ok(EvidenceRequest {
         mailbox: box_of(is_set(own, RECEIVED)),
         number,
         folder,

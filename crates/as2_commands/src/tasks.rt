@@ -74,7 +74,7 @@ impl<'a> Model for Serving<'a> {
 
 /// Which document is to be proved, and where the files go that show how it stands.
 #[derive(Drop)]
-pub struct Wanted<'a> {
+pub struct EvidenceRequest<'a> {
     /// The box that it stands in.
     pub mailbox: Mailbox,
     /// Its number: 1 to 999,999,999,999.
@@ -83,7 +83,7 @@ pub struct Wanted<'a> {
     pub folder: &'a str,
 }
 
-impl<'a> Model for Wanted<'a> {
+impl<'a> Model for EvidenceRequest<'a> {
     ghost use Rattle.as2_commands.specs.Requests.{GivenEvidence};
 
     ghost Value = { GivenEvidence };
@@ -143,7 +143,7 @@ pub enum Task<'a> {
     /// The entries of the records are looked through.
     Verify(RunOptions, Format),
     /// The files are made that show how a document stands.
-    Prove(RunOptions, Wanted<'a>),
+    GatherEvidence(RunOptions, EvidenceRequest<'a>),
     /// A command is carried out over the records.
     Run(RunOptions, Command<'a, Submission<'a>>),
 }

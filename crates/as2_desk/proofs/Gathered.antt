@@ -8,7 +8,7 @@ use Rattle.as2_exchange.specs.State.{State}
 use Rattle.as2_exchange.specs.declared.fault.StoreFault.{StoreFault}
 use Rattle.as2_records.specs.Calls.{Reads}
 use Rattle.as2_records.specs.Standing.{Medium, Standing, may_come}
-use Rattle.as2_desk.specs.Proving.{IsOf, came_of}
+use Rattle.as2_desk.specs.Evidence.{IsEvidenceAsked, came_of}
 
 module _ {V : Type 0} (view : V → List File) where
   pub fault_came : (r : Result (Option V) StoreFault) → IfErr r (λ f. may_come f ≡ true) → IfErr (came_of view r) (λ f. may_come f ≡ true)
@@ -16,7 +16,7 @@ module _ {V : Type 0} (view : V → List File) where
   fault_came (Err fault) may = may
 
   of_state : (A : AgreedValues) (s : State) (w : GivenEvidence) (r : Result (Option V) StoreFault)
-      → IfOk r (λ files. IsEvidence A s w.mailbox w.number (option_map view files)) → IsOf A s w (came_of view r)
+      → IfOk r (λ files. IsEvidence A s w.mailbox w.number (option_map view files)) → IsEvidenceAsked A s w (came_of view r)
   of_state A s w (Ok files) is = is
   of_state A s w (Err fault) is = tt
 
@@ -28,7 +28,7 @@ module _ {V : Type 0} (view : V → List File) where
   -- where the state is known, it is as it was, and what came is what it has
   pub reads_known : {M : Medium} (old new : Standing M) (A : AgreedValues) (w : GivenEvidence) (r : Result (Option V) StoreFault) (known : Option State)
       → Reads (λ s files. IsEvidence A s w.mailbox w.number (option_map view files)) old new r → IfSome known (λ s. new.IsClean × old.Rests s)
-      → IfSome known (λ s. new.Rests s × IsOf A s w (came_of view r))
+      → IfSome known (λ s. new.Rests s × IsEvidenceAsked A s w (came_of view r))
   reads_known old new A w r None read stood = tt
   reads_known old new A w r (Some s) read stood = (
     read.same stood.0 s stood.1,

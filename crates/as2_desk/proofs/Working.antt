@@ -10,7 +10,7 @@ use Rattle.as2_desk.specs.Observed.{Observation, Outcome}
 use Rattle.as2_desk.specs.Works.{CarriesOut, DoesWork, CommandInHand}
 use Rattle.as2_desk.specs.declared.status.Ran.{Ran}
 use Rattle.as2_desk.specs.declared.work.Work.{Work}
-use Rattle.as2_desk.specs.declared.work.Work.TheVariants.{At, Verify, Prove}
+use Rattle.as2_desk.specs.declared.work.Work.TheVariants.{At, Verify, GatherEvidence}
 use Rattle.as2_commands.specs.declared.tasks.Command.TheVariants as command
 
 module _ (count : ℕ) (known : Option State) (o : Outcome) (Left : State → Type 0) (l : ListenerSeen) (ran : Ran) (again : SaysAgain known Left o.Left) where
@@ -44,5 +44,5 @@ pub does_left : (A : AgreedValues) (m : ℕ) (w : Work) (known : Option State) (
 does_left A m (At c) known o Left ran again it = (it.0, carried_left A m c known o Left ran again it.1)
 does_left A m (Verify format) known o Left ran again it =
     (it.0, it.1, it.2, record { came = it.3.came; fault = it.3.fault; audits = both_known _ _ _ known again it.3.audits (λ s later audits. (later s audits.0, audits.1)); prints = it.3.prints })
-does_left A m (Prove wanted) known o Left ran again it =
+does_left A m (GatherEvidence wanted) known o Left ran again it =
     (it.0, it.1, record { came = it.2.came; fault = it.2.fault; reads = both_known _ _ _ known again it.2.reads (λ s later reads. (later s reads.0, reads.1)); makes = it.2.makes })

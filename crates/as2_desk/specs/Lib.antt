@@ -13,7 +13,7 @@ pub mod Formats
 pub mod FileDocuments
 pub mod Checks
 pub mod Posting
-pub mod Proving
+pub mod Evidence
 pub mod Questions
 pub mod Helping
 pub mod Migrating

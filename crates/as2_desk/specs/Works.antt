@@ -8,7 +8,7 @@ use Rattle.as2_host.specs.FileContents.{Content, front}
 use Rattle.as2_desk.specs.FileDocuments.{Document, HasDocument}
 use Rattle.as2_desk.specs.Observed.{Observation}
 use Rattle.as2_desk.specs.Posting.{Posts}
-use Rattle.as2_desk.specs.Proving.{Proves}
+use Rattle.as2_desk.specs.Evidence.{GathersEvidence}
 use Rattle.as2_desk.specs.Questions.{QuestionInHand, AnswersQuestion}
 use Rattle.as2_desk.specs.SendingDue.{SendsDue}
 use Rattle.as2_desk.specs.Verifying.{Verifies}
@@ -20,7 +20,7 @@ use Rattle.as2_commands.specs.declared.tasks.Question.TheVariants as question
 use Rattle.as2_desk.specs.declared.refusal.CommandFault.{CommandFault}
 use Rattle.as2_desk.specs.declared.status.Ran.{Ran}
 use Rattle.as2_desk.specs.declared.work.Work.{Work}
-use Rattle.as2_desk.specs.declared.work.Work.TheVariants.{At, Verify, Prove}
+use Rattle.as2_desk.specs.declared.work.Work.TheVariants.{At, Verify, GatherEvidence}
 
 -- a command, whose document was read
 abbrev pub CommandInHand : Type 0
@@ -72,7 +72,7 @@ CarriesOut agreements moment (Serve serving) known o ran = o.input.Untouched × 
 abbrev pub DoesWork : AgreedValues → ℕ → Work → Option State → Observation → Ran → Type 0
 DoesWork agreements moment (At command) known o ran = o.filing.Untouched × CarriesOut agreements moment command known o ran
 DoesWork agreements moment (Verify format) known o ran = o.filing.Untouched × o.Unasked × o.input.Untouched × Verifies format known o.outcome ran
-DoesWork agreements moment (Prove wanted) known o ran = o.Unasked × o.input.Untouched × Proves agreements wanted known o.filing o.outcome ran
+DoesWork agreements moment (GatherEvidence wanted) known o ran = o.Unasked × o.input.Untouched × GathersEvidence agreements wanted known o.filing o.outcome ran
 
 -- it sends
 abbrev pub IsSendCommand : CommandInHand → Type 0

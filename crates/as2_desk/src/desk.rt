@@ -169,10 +169,10 @@ fn carry_out<
             let store = NamedStore::of(store, run);
             work_over(&terms, store, Work::Verify(format), host, console)
         }
-        Task::Prove(run, wanted) => {
+        Task::GatherEvidence(run, wanted) => {
             let terms = Terms::of(alloc, &agreements, run.moment);
             let store = NamedStore::of(store, run);
-            work_over(&terms, store, Work::Prove(wanted), host, console)
+            work_over(&terms, store, Work::GatherEvidence(wanted), host, console)
         }
         Task::Run(run, command) => {
             let _ = is_noticed(&command, &mut console.hints);

@@ -18,9 +18,9 @@ ghost use Rattle.as2_desk.specs.declared.refusal.CommandFault.TheVariants.{Store
 use crate::asking::ask;
 use crate::console::{Console, Host, Outside};
 use crate::documents::document_in;
+use crate::evidence::gather;
 use crate::hints::is_limit_told;
 use crate::posting::post;
-use crate::proving::prove;
 use crate::refusal::{CommandFault, refuse};
 use crate::sending::send_due;
 use crate::serving::serve;
@@ -29,7 +29,7 @@ use crate::terms::{NamedStore, Terms};
 use crate::verifying::look_through;
 use as2_audit::Watch;
 use as2_bounded::{Bounded, room_of};
-use as2_commands::{Command, FirstNumber, Format, Question, Submission, Wanted};
+use as2_commands::{Command, EvidenceRequest, FirstNumber, Format, Question, Submission};
 use as2_host::{CountsBusy, MakeFiles, Network, OpenFault, OpenStores, ReadFiles};
 use as2_http::{Journal, Sink, Source};
 use as2_records::Records;
@@ -45,7 +45,7 @@ pub(crate) enum Work<'a> {
     /// The records are looked through.
     Verify(Format),
     /// The files are made that show how a document stands.
-    Prove(Wanted<'a>),
+    GatherEvidence(EvidenceRequest<'a>),
 }
 
 /// The document of a submission, whose file is read.
@@ -209,9 +209,9 @@ fn do_over<
             let ran = look_through(terms, format, &mut records, console);
             (ran, Some(records))
         }
-        Work::Prove(wanted) => {
+        Work::GatherEvidence(wanted) => {
             let mut records = records;
-            let ran = prove(terms, wanted, &mut records, &mut outside.files, console);
+            let ran = gather(terms, wanted, &mut records, &mut outside.files, console);
             (ran, Some(records))
         }
     }

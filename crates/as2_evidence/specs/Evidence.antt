@@ -39,16 +39,16 @@ sent_files migrated d submitted came =
     files_named (stem Outbox d.number) d.content (option_map (λ e. e.body) d.evidence) (sent_page migrated d submitted came)
 
 -- the date of the receipt, where there is one
-abbrev pub IsCame : Option Evidence → Text → Type 0
-IsCame None came = came ≡ codes ""
-IsCame (Some e) came = IsDateOf e.moment came
+abbrev pub IsReceiptMoment : Option Evidence → Text → Type 0
+IsReceiptMoment None came = came ≡ codes ""
+IsReceiptMoment (Some e) came = IsDateOf e.moment came
 
 -- the files are those, with the dates of its moments
 pub record AreSentFiles (migrated : Bool) (d : OutEntry) (files : List File) : Type 0 where
   pub submitted : Text
   pub came : Text
   pub on : IsDateOf d.moment submitted
-  pub then : IsCame d.evidence came
+  pub then : IsReceiptMoment d.evidence came
   pub are : files ≡ sent_files migrated d submitted came
 
 -- ---- a document that was received
@@ -72,11 +72,11 @@ pub record AreReceivedFiles (agreements : AgreedValues) (e : InEntry) (files : L
 -- ---- of a state
 
 -- there are such files of what was found, or none
-abbrev pub AreOf : {A : Type 0} → (A → List File → Type 0) → Option A → Option (List File) → Type 0
-AreOf Are None files = files ≡ None
-AreOf Are (Some a) files = IsSomeAnd files (Are a)
+abbrev pub AreFilesWhere : {A : Type 0} → (A → List File → Type 0) → Option A → Option (List File) → Type 0
+AreFilesWhere Are None files = files ≡ None
+AreFilesWhere Are (Some a) files = IsSomeAnd files (Are a)
 
 -- the files of the document of that number, where there is one
 abbrev pub IsEvidence : AgreedValues → State → Mailbox → ℕ → Option (List File) → Type 0
-IsEvidence agreements s Inbox number files = AreOf (AreReceivedFiles agreements) (received_entry s number) files
-IsEvidence agreements s Outbox number files = AreOf (AreSentFiles (is_migrated s)) (document s number) files
+IsEvidence agreements s Inbox number files = AreFilesWhere (AreReceivedFiles agreements) (received_entry s number) files
+IsEvidence agreements s Outbox number files = AreFilesWhere (AreSentFiles (is_migrated s)) (document s number) files

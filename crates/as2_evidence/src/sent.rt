@@ -1,7 +1,7 @@
 //! Documents that are sent.
 ghost use Rattle.std.specs.Prelude.{◌≡◌, ◌++◌, IfOk, OnOk, None, Some, option_map, string_bytes};
 ghost use Rattle.as2_audit.specs.Faults.{kept_receipt};
-ghost use Rattle.as2_evidence.specs.Evidence.{AreSentFiles, IsCame};
+ghost use Rattle.as2_evidence.specs.Evidence.{AreSentFiles, IsReceiptMoment};
 ghost use Rattle.as2_evidence.specs.Files.{files_of};
 ghost use Rattle.as2_evidence.specs.Pages.{fields_command, known_lines, receipt_heading, receipt_lines, said_lines, sent_page, sent_title};
 
@@ -141,7 +141,7 @@ fn sent_page(
 
 /// The date on which the receipt came, or no text where none did.
 fn came_on(alloc: Global, evidence: Option<&Evidence>) -> Result<Vec<u8>, AllocError>
-    ensures { IfOk result (λ text. IsCame (option_map (λ e. e.now) evidence.entry) text.items) }
+    ensures { IfOk result (λ text. IsReceiptMoment (option_map (λ e. e.now) evidence.entry) text.items) }
 {
     let Some(evidence) = evidence else {
         return Ok(Vec::new(alloc));

@@ -1,3 +1,5 @@
+//! The address that a receipt is to be posted to.
+
 ghost use Rattle.std.specs.Prelude.{◌≡◌, IfOk, IsTrue, is_some};
 ghost use Rattle.as2_text.specs.Addresses.{url_of};
 

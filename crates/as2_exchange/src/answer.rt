@@ -1,3 +1,5 @@
+//! What the machine answers to an event.
+
 ghost use Rattle.std.specs.Prelude.{◌≡◌};
 ghost use Rattle.as2_exchange.specs.Lines.{line_text, refusal, status_of};
 

@@ -1,3 +1,5 @@
+//! Whether a try is open.
+
 ghost use Rattle.std.specs.Prelude.{◌≡◌};
 ghost use Rattle.as2_exchange.specs.Tries.{is_idle};
 

@@ -1,3 +1,5 @@
+//! Bytes that are kept on the heap.
+
 ghost use Rattle.std.specs.Prelude.{◌≡◌, IfOk};
 
 use as2_text::Memory;

@@ -1,3 +1,5 @@
+//! What the machine takes: posts, commands, tries and moments.
+
 use as2_mic::Pieces;
 use as2_text::{AsName, Head, Moment};
 

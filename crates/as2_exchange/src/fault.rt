@@ -1,3 +1,5 @@
+//! Why a store couldn't answer.
+
 ghost use Rattle.std.specs.Prelude.{◌≡◌};
 ghost use Rattle.as2_exchange.specs.declared.fault.StoreFault.TheVariants.{Memory as OutOfMemory};
 

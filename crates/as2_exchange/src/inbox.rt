@@ -1,3 +1,5 @@
+//! Posted documents, as they are recorded, and the receipts that are owed for them.
+
 use crate::address::Address;
 use crate::attempt::Attempt;
 use crate::bytes::Bytes;

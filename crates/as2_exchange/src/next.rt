@@ -1,3 +1,5 @@
+//! What is to be sent next.
+
 /// What is to be sent next.
 #[derive(Clone, Copy, Debug, PartialEq, Eq)]
 pub enum Next {

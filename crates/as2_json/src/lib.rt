@@ -16,7 +16,7 @@ pub use counts::add_counts_object;
 pub use document::add_document_object;
 pub use findings::{add_finding_object, add_verified_object};
 pub use laws::{lines_read_back, listings_of_rows, listings_read_back, verifications_read_back};
-pub use listing::{listing_in_objects, outstanding_in_objects, shown_in_objects};
+pub use listing::{listing_in_objects, outstanding_in_objects, show_in_objects};
 pub use lists::{add_in_objects, add_out_objects};
 pub use rows::{add_in_object, add_out_object};
 pub use verifying::verify_in_objects;

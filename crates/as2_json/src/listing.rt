@@ -133,7 +133,7 @@ pub fn outstanding_in_objects<R: Records>(
 }
 
 /// The line of the document of this number in full, if there is one. Answers Memory, Disk or Refused.
-pub fn shown_in_objects<R: Records>(
+pub fn show_in_objects<R: Records>(
     records: &mut R,
     alloc: Global,
     number: u64,

@@ -1,3 +1,5 @@
+//! What is due, in lists.
+
 ghost use Rattle.std.specs.Prelude.{◌≡◌};
 ghost use Rattle.as2_exchange.specs.Tries.{is_due};
 

@@ -1,3 +1,5 @@
+//! Records in lists, in memory.
+
 ghost use Rattle.std.specs.Prelude.{◌≡◌, ◌≤◌, ◌<◌};
 ghost use Rattle.as2_exchange.specs.State.{LaterVersion, empty, end_of_numbers};
 ghost use Rattle.as2_lists.specs.Standing.{StandsFor};

@@ -1,3 +1,5 @@
+//! What is known of a document that was sent, and the class that listings group it in.
+
 ghost use Rattle.std.specs.Prelude.{◌≡◌};
 ghost use Rattle.as2_mdn.specs.Details.{class_of, name_of};
 

@@ -1,3 +1,5 @@
+//! Dispositions (RFC 8098, section 3.2.6).
+
 ghost use Rattle.std.specs.Prelude.{◌≡◌, ℕ, List, Ok, IfOk, option_map};
 ghost use Rattle.std.specs.Str.{str_eq_ignore_ascii_case};
 ghost use Rattle.as2_names.specs.Ascii.{slash};

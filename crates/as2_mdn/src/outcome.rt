@@ -1,3 +1,5 @@
+//! What became of a posted document, as its receipt says it (RFC 4130, section 7.5).
+
 ghost use Rattle.std.specs.Prelude.{◌≡◌};
 ghost use Rattle.as2_mic.specs.Algs.{AllDigests};
 ghost use Rattle.as2_text.specs.ReceiptRequests.{request_of};

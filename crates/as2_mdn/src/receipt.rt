@@ -1,3 +1,5 @@
+//! A receipt as it was read (RFC 8098).
+
 ghost use Rattle.std.specs.Prelude.{◌≡◌, ◌↔◌, IsTrue};
 ghost use Rattle.as2_names.specs.Identifiers.{without_brackets};
 

@@ -1,3 +1,5 @@
+//! The verdict of a receipt on the content that was sent.
+
 ghost use Rattle.std.specs.Prelude.{◌≡◌};
 ghost use Rattle.as2_mic.specs.Algs.{AllDigests};
 ghost use Rattle.as2_mdn.specs.Verdicts.{verdict_on, verdict_of};

@@ -1,3 +1,5 @@
+//! Places of bytes in a text, and cuts at them.
+
 // Texts that are cut in two at the first `;` outside quotes.
 ghost use Rattle.std.specs.Prelude.{◌≡◌, ◌∷◌, option_map};
 ghost use Rattle.as2_media.specs.Cuts.{next_place, segments, segments_of};

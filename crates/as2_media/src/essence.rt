@@ -1,3 +1,5 @@
+//! A media type's type and subtype (RFC 2045, section 5.1).
+
 // The type and subtype of a media type.
 ghost use Rattle.std.specs.Prelude.{◌≡◌};
 ghost use Rattle.as2_media.specs.MediaTypes.{essence, is_type};

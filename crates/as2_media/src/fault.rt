@@ -1,3 +1,5 @@
+//! Why a text is no media type.
+
 /// Why a text is no media type: the first fault, those of the type and subtype before those of the parameters, which
 /// count from the left (RFC 2045, section 5.1).
 #[derive(Clone, Copy, Debug, PartialEq, Eq)]

@@ -1,3 +1,5 @@
+//! What a body is by its media type: a document, a report, or one that is secured.
+
 /// What a body is, told by its media type.
 #[derive(Clone, Copy, Debug, PartialEq, Eq)]
 pub enum Kind {

@@ -1,3 +1,5 @@
+//! Media types, with their parameters (RFC 2045, section 5.1).
+
 // Media types.
 ghost use Rattle.std.specs.Prelude.{◌≡◌, ℕ, IfOk, Ok, Option, option_map};
 ghost use Rattle.as2_media.specs.MediaTypes.{Media, IsMediaType, media_type_reading, essence, media_of, media_is_type};

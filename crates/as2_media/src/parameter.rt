@@ -1,3 +1,5 @@
+//! A parameter of a media type (RFC 2045, section 5.1).
+
 // One parameter of a media type.
 ghost use Rattle.std.specs.Prelude.{◌≡◌};
 ghost use Rattle.std.specs.Str.{str_eq_ignore_ascii_case};

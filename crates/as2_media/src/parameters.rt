@@ -1,3 +1,5 @@
+//! The parameters of a media type, of which there are eight at most.
+
 // The parameters of a media type.
 ghost use Rattle.std.specs.Prelude.{◌≡◌, option_map};
 ghost use Rattle.as2_media.specs.Cuts.{segments_of};

@@ -1,3 +1,5 @@
+//! Tokens (RFC 2045, section 5.1).
+
 // Tokens and the classes of bytes that values are made of.
 ghost use Rattle.std.specs.Prelude.{◌≡◌};
 ghost use Rattle.std.specs.List.{list_all};

@@ -1,3 +1,5 @@
+//! Values of parameters: tokens, and texts in quotes (RFC 2045, section 5.1).
+
 // The spelling of a parameter's value.
 ghost use Rattle.std.specs.Prelude.{◌≡◌, false, option_map};
 ghost use Rattle.as2_media.specs.Values.{is_quoted_text, between_quotes, spelled_value};

@@ -1,3 +1,5 @@
+//! The digests that MICs are made with (RFC 4130, section 7.3.1).
+
 ghost use Rattle.std.specs.Prelude.{◌≡◌};
 ghost use Rattle.as2_mic.specs.Algs.{AllDigests, alg_named, alg_name, first_known_of, is_late};
 
@@ -5,8 +7,8 @@ use as2_names::{cut_at, without_blanks};
 
 /// A digest that MICs are made with (RFC 4130, section 7.3.1).
 ///
-/// What depends on the digest, as its size, its name and its text, is asked of this crate, so that
-/// nothing outside matches on the variants.
+/// What depends on the digest, as its size, its name and its text, is asked of this crate. The words
+/// that agreements have for it stand in `as2_agreement`.
 #[derive(Clone, Copy, Debug, PartialEq, Eq)]
 pub enum Alg {
     /// MD5 (RFC 1321).

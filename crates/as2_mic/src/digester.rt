@@ -1,3 +1,5 @@
+//! A MIC that is made piece by piece.
+
 ghost use Rattle.std.specs.Prelude.{◌≡◌, ℕ, List, [], ◌++◌};
 ghost use Rattle.as2_mic.specs.declared.alg.Alg.{Alg as Digest};
 ghost use Rattle.as2_mic.specs.Mic.{mic};

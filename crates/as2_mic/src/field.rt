@@ -1,3 +1,5 @@
+//! The field of a receipt that has its MIC (RFC 4130, section 7.4.3).
+
 ghost use Rattle.std.specs.Prelude.{◌≡◌, ℕ, List, Some, IfSome, IfNone};
 ghost use Rattle.as2_mic.specs.Algs.{AllDigests};
 ghost use Rattle.as2_mic.specs.Field.{IsMicField, comparison, compared_to};

@@ -1,3 +1,5 @@
+//! The text of a MIC: base64 of the value of its digest.
+
 ghost use Rattle.std.specs.Prelude.{◌≡◌, ◌<◌, ◌≤◌, length};
 ghost use Rattle.as2_mic.specs.Mic.{IsMicText, mic_text, base64_text};
 

@@ -1,3 +1,5 @@
+//! Bytes of US-ASCII by their kinds.
+
 // Classes of bytes.
 ghost use Rattle.std.specs.Prelude.{◌≡◌};
 ghost use Rattle.std.specs.List.{list_all};

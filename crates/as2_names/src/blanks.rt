@@ -1,3 +1,5 @@
+//! Texts without the blanks at their ends (RFC 9110, section 5.6.3).
+
 ghost use Rattle.std.specs.Prelude.{◌≡◌, reverse};
 ghost use Rattle.as2_names.specs.Blanks.{is_blank, skip_blanks, without_blanks};
 

@@ -1,3 +1,5 @@
+//! Cuts of a text at the first place of a byte.
+
 ghost use Rattle.std.specs.Prelude.{◌≡◌, option_map, IfSome, IfNone};
 ghost use Rattle.as2_names.specs.Cuts.{Lacks, IsCutAt, cut_at};
 

@@ -1,3 +1,5 @@
+//! Domains, which stand behind the `@` of an identifier.
+
 ghost use Rattle.std.specs.Prelude.{◌≡◌, ℕ, List, ⊤};
 ghost use Rattle.std.specs.List.{list_all};
 ghost use Rattle.as2_names.specs.Domains.{IsDomain, domain_of, is_domain, is_domain_byte};

@@ -1,3 +1,5 @@
+//! Message identifiers (RFC 4130, section 5.3.3).
+
 ghost use Rattle.std.specs.Prelude.{◌≡◌, ◌⊎◌, ◌↔◌, ℕ, List, IfOk, Ok, Err, IsTrue, string_bytes};
 ghost use Rattle.as2_names.specs.Blanks.{without_blanks};
 ghost use Rattle.as2_names.specs.Identifiers.{IsIdentifier, OrNoMemory, identifier_of, is_identifier, identifier_reading, without_brackets};

@@ -1,3 +1,5 @@
+//! Want of memory, as an error.
+
 use std::alloc::{AllocError, AllocFailed};
 
 /// Memory that a call asked for wasn't there.

@@ -1,3 +1,5 @@
+//! Moments, in seconds since 1970.
+
 ghost use Rattle.std.specs.Prelude.{◌≡◌, ◌≤◌, ℕ};
 ghost use Rattle.as2_names.specs.Moments.{last_moment, moment_of};
 

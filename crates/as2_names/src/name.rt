@@ -1,3 +1,5 @@
+//! AS2 names (RFC 4130, section 6.2).
+
 ghost use Rattle.std.specs.Prelude.{◌≡◌, ◌==◌, ◌≢◌, ◌<◌, ◌≤◌, ◌+◌, ℕ, List, [], ◌∷◌, ◌++◌, take, length, Bool, false, true, IfOk, IfErr, OnOk, Ok, Err, IsTrue, ⊤};
 ghost use Rattle.std.specs.List.{list_all};
 ghost use Rattle.arrayvec.specs.ArrayString.{array_string_len};

@@ -1,3 +1,5 @@
+//! Options among the members of a value (RFC 9110, section 5.6.1).
+
 ghost use Rattle.std.specs.Prelude.{◌≡◌};
 ghost use Rattle.as2_names.specs.Options.{is_option, lists};
 

@@ -1,3 +1,5 @@
+//! Texts without the blanks and line ends at their ends.
+
 ghost use Rattle.std.specs.Prelude.{◌≡◌};
 ghost use Rattle.as2_names.specs.Trim.{falls_off, without_front, without_back, trimmed_text};
 

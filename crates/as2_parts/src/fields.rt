@@ -1,3 +1,5 @@
+//! A part's fields (RFC 2045, RFC 5322).
+
 ghost use Rattle.std.specs.Prelude.{◌≡◌, ◌<◌, ◌∷◌, length, IfSome, option_map, position, List};
 ghost use Rattle.std.specs.List.{list_all};
 ghost use Rattle.as2_parts.specs.Fields.{HasFields, FieldText, is_field_name_byte, is_field_name, is_colon, begins_with_blank, folded_lines, folded_field, fields, fields_named, field_text, TellsField};

@@ -1,3 +1,5 @@
+//! The lines of a text, each with its line end.
+
 ghost use Rattle.std.specs.Prelude.{◌≡◌, ◌<◌, ◌∷◌, ◌++◌, length, reverse};
 ghost use Rattle.as2_parts.specs.Lines.{lines, is_empty_line, without_return, without_line_end};
 

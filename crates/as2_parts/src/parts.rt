@@ -1,3 +1,5 @@
+//! The two parts of a report (RFC 2046, section 5.1).
+
 ghost use Rattle.std.specs.Prelude.{◌≡◌, IfOk, Ok};
 ghost use Rattle.as2_parts.specs.Lines.{without_line_end};
 ghost use Rattle.std.specs.Result.{result_err};

@@ -1,3 +1,5 @@
+//! Contents, each in the rows of its pieces.
+
 ghost use Rattle.std.specs.Prelude.{◌≡◌, ℕ, List, length, map, IfOk, IfErr};
 ghost use Rattle.as2_rows.specs.Contents.{pieces, piece_shown};
 ghost use Rattle.as2_rows.specs.declared.fault.RowFault.TheVariants as fault;

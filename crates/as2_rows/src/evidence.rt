@@ -1,3 +1,5 @@
+//! The row of the receipt that settled a document.
+
 ghost use Rattle.std.specs.Prelude.{◌≡◌, ◌≤◌, ℕ, IfOk, IfErr};
 ghost use Rattle.as2_names.specs.Moments.{last_moment};
 ghost use Rattle.as2_exchange.specs.declared.outbox.Evidence.{Evidence as Receipt};

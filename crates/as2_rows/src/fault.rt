@@ -1,3 +1,5 @@
+//! Why a row couldn't be read.
+
 use as2_text::Memory;
 
 /// Why a row couldn't be read.

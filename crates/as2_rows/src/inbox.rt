@@ -1,3 +1,5 @@
+//! Rows of posted documents.
+
 ghost use Rattle.std.specs.Prelude.{◌≡◌, IfOk, IfErr};
 ghost use Rattle.as2_exchange.specs.declared.inbox.InEntry.{InEntry as Entry};
 ghost use Rattle.as2_rows.specs.Rows.{in_shown, in_row_shown};

@@ -1,3 +1,5 @@
+//! Rows of documents that are sent.
+
 ghost use Rattle.std.specs.Prelude.{◌≡◌, IfOk, IfErr};
 ghost use Rattle.as2_exchange.specs.declared.outbox.OutEntry.{OutEntry as Entry};
 ghost use Rattle.as2_rows.specs.Rows.{out_shown, out_row_shown};

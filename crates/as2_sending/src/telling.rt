@@ -27,7 +27,7 @@ fn letter(state: DetailClass) -> &'static str
     }
 }
 
-/// Appends what was tried.
+/// What was tried: the kind and the number.
 pub(crate) fn subject(what: Next) -> Line
     ensures text { result.bytes ≡ subject what }
     ensures short { length result.bytes ≤ 49 }
@@ -44,9 +44,9 @@ pub(crate) fn subject(what: Next) -> Line
 
 /// Appends what became of it.
 fn add_words(line: &mut Line, became: Became)
-    requires { length turn_line.old.bytes ≤ 51 }
-    ensures text { turn_line.new.bytes ≡ turn_line.old.bytes ++ words became }
-    ensures short { length turn_line.new.bytes ≤ length turn_line.old.bytes + 26 }
+    requires { length line.old.bytes ≤ 51 }
+    ensures text { line.new.bytes ≡ line.old.bytes ++ words became }
+    ensures short { length line.new.bytes ≤ length line.old.bytes + 26 }
 {
     match became {
         Became::Settled(detail) => {

@@ -352,7 +352,7 @@ impl<R: Records> Station<R> {
             ≡ option_map object_line (shown_object s number)) (R.shows self.old) (R.shows self.new) result }
         ensures fault { IfErr result (λ f. may_come f ≡ true) }
     {
-        as2_json::shown_in_objects(&mut self.records, alloc, number)
+        as2_json::show_in_objects(&mut self.records, alloc, number)
     }
 
     /// The content of the received document of this number; None where there is no such entry. Answers Memory, Disk or Refused.

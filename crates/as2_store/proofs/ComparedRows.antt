@@ -24,7 +24,7 @@ use Rattle.as2_records.specs.declared.numbers.NextNumbers.{NextNumbers}
 use Rattle.as2_records.specs.declared.summaries.InRow.{InRow}
 use Rattle.as2_records.specs.declared.summaries.OutRow.{OutRow}
 use Rattle.as2_rows.specs.Waiting.{WaitingRow, in_kind, out_kind, to_send_receipt, to_end, to_hear, to_send, waiting_in, waiting_out}
-use Rattle.as2_store.specs.declared.discrepancies.WaitRow.{WaitRow}
+use Rattle.as2_store.specs.declared.discrepancies.PlacedWaitingRow.{PlacedWaitingRow}
 use Rattle.as2_store.specs.Discrepancies.{Compares, IsFirst, IsFirstOf, all_wanted, documents_wanted, is_kind, owes_receipt, is_waiting, last, not_below, number_told, receipts_wanted, rows_of, row_shown, wait_row, wait_told}
 use Rattle.as2_store.specs.Stands.{Holds, Rests, all_waiting, documents_waiting, waiting_row}
 use Rattle.as2_store.specs.Tables.{waiting_tree}
@@ -36,7 +36,7 @@ use Rattle.as2_store.proofs.Texts.{waiting_columns, waiting_names, waiting_read_
 
 -- ---- what is kept
 
-abbrev row_of : WaitingRow → WaitRow
+abbrev row_of : WaitingRow → PlacedWaitingRow
 row_of w = wait_row w.kind w.number w.due
 
 pub finds_waiting : (old new : Connected) (rows : List Row) → Shown waiting_read_text [] old new rows → (s : State) → Rests old s
@@ -64,7 +64,7 @@ answered Sent a = tt
 abbrev owed : List InEntry → List InRow
 owed es = filter owes_receipt (map in_summary es)
 
-abbrev receipt_rows : List InRow → List WaitRow
+abbrev receipt_rows : List InRow → List PlacedWaitingRow
 receipt_rows rows = map (λ (e : InRow). wait_row to_send_receipt e.number e.due) rows
 
 abbrev row_if : ℕ → Option ℕ → Option ℕ → Option WaitingRow
@@ -83,7 +83,7 @@ module _ (kind : ℕ) where
   abbrev those : List OutEntry → List OutRow
   those ds = filter (is_waiting kind) (map out_summary ds)
 
-  abbrev document_rows : List OutRow → List WaitRow
+  abbrev document_rows : List OutRow → List PlacedWaitingRow
   document_rows rows = map (λ (d : OutRow). wait_row kind d.number d.due) rows
 
   documents_kept : (ds : List OutEntry) → documents_wanted kind (map out_summary ds) ≡ rows_of (documents_waiting kind ds)
@@ -146,16 +146,16 @@ none_past next s all are =
     ∙ below out_summary (λ (d : OutRow). d.number) s.next_out s.outbox _ all.documents)
 
 -- lists that are the same have no first difference
-alike : (wanted kept : List WaitRow) (row : Option WaitRow) → Compares wanted kept row → wanted ≡ kept → row ≡ None
+alike : (wanted kept : List PlacedWaitingRow) (row : Option PlacedWaitingRow) → Compares wanted kept row → wanted ≡ kept → row ≡ None
 alike wanted kept None told same = refl
 alike wanted kept (Some row) told same = absurd (told.1.there (ap (λ l. slice_get l told.0) same))
 
-none_of : (told : Option Discrepancy) (wanted kept : List WaitRow) (found : Option Discrepancy) → IsFirstOf told wanted kept found
+none_of : (told : Option Discrepancy) (wanted kept : List PlacedWaitingRow) (found : Option Discrepancy) → IsFirstOf told wanted kept found
     → told ≡ None → wanted ≡ kept → found ≡ None
 none_of None wanted kept found it none same = it.2 ∙ ap (option_map wait_told) (alike wanted kept it.0 it.1 same)
 none_of (Some told) wanted kept found it none same = absurd cc
 
-pub none_first : (next : NextNumbers) (received : List InRow) (sent : List OutRow) (kept : List WaitRow) (found : Option Discrepancy) (s : State)
+pub none_first : (next : NextNumbers) (received : List InRow) (sent : List OutRow) (kept : List PlacedWaitingRow) (found : Option Discrepancy) (s : State)
     → IsFirst next received sent kept found → AreBelow s → AreNext next s → received ≡ map in_summary s.inbox → sent ≡ listed_rows None s
     → kept ≡ rows_of (all_waiting s) → found ≡ None
 none_first next received sent kept found s it all are ins outs rows =

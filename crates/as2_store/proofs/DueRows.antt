@@ -34,7 +34,7 @@ use Rattle.as2_store.specs.Due.{due_waiting, due_numbers, number_rows}
 use Rattle.as2_store.proofs.Statements.{any_due_text, least_due_text}
 use Rattle.as2_store.proofs.Texts.{due_columns, any_due_terms, any_due_is, any_due_plain, any_due_unlisted, least_due_terms, least_due_is, least_due_plain, least_due_unlisted}
 use Rattle.as2_store.proofs.QueriedRows.{and_true}
-use Rattle.as2_store.proofs.WaitingRows.{IsOf, documents_of, ins_small}
+use Rattle.as2_store.proofs.WaitingRows.{IsEvidenceAsked, documents_of, ins_small}
 use Rattle.as2_store.proofs.OwedTables.{places_in_order}
 
 -- ---- what the statements ask
@@ -74,9 +74,9 @@ pub numbers_small : {layout : Layout} (t : Connected) (s : State) → Stands lay
 numbers_small t s it =
     let outs = all_weaken (λ k. k < s.next_out) (λ k. k < end_of_numbers) (λ k less. omega (arith, less, it.documents.0.most)) (map (λ (d : OutEntry). d.number) s.outbox) it.documents.1.below in
     let ins = all_weaken (λ k. k < s.next_in) (λ k. k < end_of_numbers) (λ k less. omega (arith, less, it.receipts.0.most)) (map (λ (e : InEntry). e.number) s.inbox) it.receipts.1.below in
-    let of = λ (kind : ℕ). all_weaker (IsOf kind end_of_numbers) (λ w. w.number < end_of_numbers) (λ w is. is.1) (documents_waiting kind s.outbox) (documents_of kind end_of_numbers s.outbox outs) in
+    let of = λ (kind : ℕ). all_weaker (IsEvidenceAsked kind end_of_numbers) (λ w. w.number < end_of_numbers) (λ w is. is.1) (documents_waiting kind s.outbox) (documents_of kind end_of_numbers s.outbox outs) in
     all-append (λ w. w.number < end_of_numbers) (documents_waiting to_send s.outbox) (waiting_in s.inbox ++ (documents_waiting to_hear s.outbox ++ documents_waiting to_end s.outbox)) (of to_send)
-    (all-append (λ w. w.number < end_of_numbers) (waiting_in s.inbox) (documents_waiting to_hear s.outbox ++ documents_waiting to_end s.outbox) (all_weaker (IsOf to_send_receipt end_of_numbers) (λ w. w.number < end_of_numbers) (λ w is. is.1) (waiting_in s.inbox) (ins_small end_of_numbers s.inbox ins))
+    (all-append (λ w. w.number < end_of_numbers) (waiting_in s.inbox) (documents_waiting to_hear s.outbox ++ documents_waiting to_end s.outbox) (all_weaker (IsEvidenceAsked to_send_receipt end_of_numbers) (λ w. w.number < end_of_numbers) (λ w is. is.1) (waiting_in s.inbox) (ins_small end_of_numbers s.inbox ins))
     (all-append (λ w. w.number < end_of_numbers) (documents_waiting to_hear s.outbox) (documents_waiting to_end s.outbox) (of to_hear) (of to_end)))
 
 of_the_kind : (kind m : ℕ) (ws : List WaitingRow) → AllByRecursion (λ w. w.kind ≡ kind) (filter (λ w. w.kind == kind && is_due m w.due) ws)

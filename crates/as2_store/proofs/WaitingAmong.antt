@@ -18,7 +18,7 @@ use Rattle.as2_store.specs.Adding.{noted_rows}
 use Rattle.as2_store.specs.Requeuing.{not_at}
 use Rattle.as2_store.specs.Settling.{place_of, without_document}
 use Rattle.as2_store.proofs.NumberedRows.{puts_between}
-use Rattle.as2_store.proofs.WaitingRows.{IsOf, documents_of, ins_small}
+use Rattle.as2_store.proofs.WaitingRows.{IsEvidenceAsked, documents_of, ins_small}
 use Rattle.as2_store.proofs.WaitingPlaces.{taken}
 
 -- ---- what one document waits for
@@ -86,9 +86,9 @@ at_place n due kind (Some k) = go (k == kind) refl
 
 -- lists in order of the places, before and behind those of number n
 module _ (n : ℕ) (small : n < end_of_numbers) (send1 send2 answer hear1 hear2 end1 end2 : List WaitingRow)
-    (s1 : AllByRecursion (IsOf to_send n) send1) (s2 : AllByRecursion (λ w. IsOf to_send end_of_numbers w × (n < w.number)) send2) (a : AllByRecursion (IsOf to_send_receipt end_of_numbers) answer)
-    (h1 : AllByRecursion (IsOf to_hear n) hear1) (h2 : AllByRecursion (λ w. IsOf to_hear end_of_numbers w × (n < w.number)) hear2)
-    (e1 : AllByRecursion (IsOf to_end n) end1) (e2 : AllByRecursion (λ w. IsOf to_end end_of_numbers w × (n < w.number)) end2) where
+    (s1 : AllByRecursion (IsEvidenceAsked to_send n) send1) (s2 : AllByRecursion (λ w. IsEvidenceAsked to_send end_of_numbers w × (n < w.number)) send2) (a : AllByRecursion (IsEvidenceAsked to_send_receipt end_of_numbers) answer)
+    (h1 : AllByRecursion (IsEvidenceAsked to_hear n) hear1) (h2 : AllByRecursion (λ w. IsEvidenceAsked to_hear end_of_numbers w × (n < w.number)) hear2)
+    (e1 : AllByRecursion (IsEvidenceAsked to_end n) end1) (e2 : AllByRecursion (λ w. IsEvidenceAsked to_end end_of_numbers w × (n < w.number)) end2) where
   abbrev joined : Option WaitingRow → Option WaitingRow → Option WaitingRow → List WaitingRow
   joined o1 o3 o4 = (send1 ++ cons_option o1 send2) ++ (answer ++ ((hear1 ++ cons_option o3 hear2) ++ (end1 ++ cons_option o4 end2)))
 
@@ -126,33 +126,33 @@ module _ (n : ℕ) (small : n < end_of_numbers) (send1 send2 answer hear1 hear2 
   -- ---- the places
 
   low1 : AllByRecursion (λ w. place w < place_of to_send n) send1
-  low1 = all_weaker (IsOf to_send n) (λ w. place w < place_of to_send n) (λ w is. omega (arith, is.0, is.1)) send1 s1
+  low1 = all_weaker (IsEvidenceAsked to_send n) (λ w. place w < place_of to_send n) (λ w is. omega (arith, is.0, is.1)) send1 s1
 
   sends_low : (k : ℕ) → to_send < k → AllByRecursion (λ w. place w < place_of k n) (send1 ++ send2)
-  sends_low k less = all-append (λ w. place w < place_of k n) send1 send2 (all_weaker (IsOf to_send n) (λ w. place w < place_of k n) (λ w is. omega (arith, is.0, is.1, less, small)) send1 s1)
-      (all_weaker (λ w. IsOf to_send end_of_numbers w × (n < w.number)) (λ w. place w < place_of k n) (λ w is. omega (arith, is.0.0, is.0.1, less)) send2 s2)
+  sends_low k less = all-append (λ w. place w < place_of k n) send1 send2 (all_weaker (IsEvidenceAsked to_send n) (λ w. place w < place_of k n) (λ w is. omega (arith, is.0, is.1, less, small)) send1 s1)
+      (all_weaker (λ w. IsEvidenceAsked to_send end_of_numbers w × (n < w.number)) (λ w. place w < place_of k n) (λ w is. omega (arith, is.0.0, is.0.1, less)) send2 s2)
 
   low3 : AllByRecursion (λ w. place w < place_of to_hear n) before3
   low3 = all-append (λ w. place w < place_of to_hear n) (send1 ++ send2) (answer ++ hear1) (sends_low to_hear (omega arith))
-      (all-append (λ w. place w < place_of to_hear n) answer hear1 (all_weaker (IsOf to_send_receipt end_of_numbers) (λ w. place w < place_of to_hear n) (λ w is. omega (arith, is.0, is.1)) answer a)
-      (all_weaker (IsOf to_hear n) (λ w. place w < place_of to_hear n) (λ w is. omega (arith, is.0, is.1)) hear1 h1))
+      (all-append (λ w. place w < place_of to_hear n) answer hear1 (all_weaker (IsEvidenceAsked to_send_receipt end_of_numbers) (λ w. place w < place_of to_hear n) (λ w is. omega (arith, is.0, is.1)) answer a)
+      (all_weaker (IsEvidenceAsked to_hear n) (λ w. place w < place_of to_hear n) (λ w is. omega (arith, is.0, is.1)) hear1 h1))
 
   low4 : AllByRecursion (λ w. place w < place_of to_end n) before4
   low4 = all-append (λ w. place w < place_of to_end n) (send1 ++ send2) (answer ++ ((hear1 ++ hear2) ++ end1)) (sends_low to_end (omega arith))
-      (all-append (λ w. place w < place_of to_end n) answer ((hear1 ++ hear2) ++ end1) (all_weaker (IsOf to_send_receipt end_of_numbers) (λ w. place w < place_of to_end n) (λ w is. omega (arith, is.0, is.1)) answer a)
+      (all-append (λ w. place w < place_of to_end n) answer ((hear1 ++ hear2) ++ end1) (all_weaker (IsEvidenceAsked to_send_receipt end_of_numbers) (λ w. place w < place_of to_end n) (λ w is. omega (arith, is.0, is.1)) answer a)
       (all-append (λ w. place w < place_of to_end n) (hear1 ++ hear2) end1
-      (all-append (λ w. place w < place_of to_end n) hear1 hear2 (all_weaker (IsOf to_hear n) (λ w. place w < place_of to_end n) (λ w is. omega (arith, is.0, is.1, small)) hear1 h1)
-      (all_weaker (λ w. IsOf to_hear end_of_numbers w × (n < w.number)) (λ w. place w < place_of to_end n) (λ w is. omega (arith, is.0.0, is.0.1)) hear2 h2))
-      (all_weaker (IsOf to_end n) (λ w. place w < place_of to_end n) (λ w is. omega (arith, is.0, is.1)) end1 e1)))
+      (all-append (λ w. place w < place_of to_end n) hear1 hear2 (all_weaker (IsEvidenceAsked to_hear n) (λ w. place w < place_of to_end n) (λ w is. omega (arith, is.0, is.1, small)) hear1 h1)
+      (all_weaker (λ w. IsEvidenceAsked to_hear end_of_numbers w × (n < w.number)) (λ w. place w < place_of to_end n) (λ w is. omega (arith, is.0.0, is.0.1)) hear2 h2))
+      (all_weaker (IsEvidenceAsked to_end n) (λ w. place w < place_of to_end n) (λ w is. omega (arith, is.0, is.1)) end1 e1)))
 
   high4 : AllByRecursion (λ w. place_of to_end n < place w) end2
-  high4 = all_weaker (λ w. IsOf to_end end_of_numbers w × (n < w.number)) (λ w. place_of to_end n < place w) (λ w is. omega (arith, is.0.0, is.1)) end2 e2
+  high4 = all_weaker (λ w. IsEvidenceAsked to_end end_of_numbers w × (n < w.number)) (λ w. place_of to_end n < place w) (λ w is. omega (arith, is.0.0, is.1)) end2 e2
 
   -- behind a place of a lower kind
   ends_high : (k : ℕ) → k < to_end → (o4 : Option WaitingRow) → IfSome o4 (λ w. place w ≡ place_of to_end n)
       → AllByRecursion (λ w. place_of k n < place w) (end1 ++ cons_option o4 end2)
-  ends_high k less o4 at = all-append (λ w. place_of k n < place w) end1 (cons_option o4 end2) (all_weaker (IsOf to_end n) (λ w. place_of k n < place w) (λ w is. omega (arith, is.0, less, small)) end1 e1)
-      (own o4 at (all_weaker (λ w. IsOf to_end end_of_numbers w × (n < w.number)) (λ w. place_of k n < place w) (λ w is. omega (arith, is.0.0, is.1, less, small)) end2 e2))
+  ends_high k less o4 at = all-append (λ w. place_of k n < place w) end1 (cons_option o4 end2) (all_weaker (IsEvidenceAsked to_end n) (λ w. place_of k n < place w) (λ w is. omega (arith, is.0, less, small)) end1 e1)
+      (own o4 at (all_weaker (λ w. IsEvidenceAsked to_end end_of_numbers w × (n < w.number)) (λ w. place_of k n < place w) (λ w is. omega (arith, is.0.0, is.1, less, small)) end2 e2))
     where
       own : (o : Option WaitingRow) → IfSome o (λ w. place w ≡ place_of to_end n) → AllByRecursion (λ w. place_of k n < place w) end2
           → AllByRecursion (λ w. place_of k n < place w) (cons_option o end2)
@@ -161,16 +161,16 @@ module _ (n : ℕ) (small : n < end_of_numbers) (send1 send2 answer hear1 hear2 
 
   high3 : (o4 : Option WaitingRow) → IfSome o4 (λ w. place w ≡ place_of to_end n) → AllByRecursion (λ w. place_of to_hear n < place w) (behind3 o4)
   high3 o4 at = all-append (λ w. place_of to_hear n < place w) hear2 (end1 ++ cons_option o4 end2)
-      (all_weaker (λ w. IsOf to_hear end_of_numbers w × (n < w.number)) (λ w. place_of to_hear n < place w) (λ w is. omega (arith, is.0.0, is.1)) hear2 h2) (ends_high to_hear (omega arith) o4 at)
+      (all_weaker (λ w. IsEvidenceAsked to_hear end_of_numbers w × (n < w.number)) (λ w. place_of to_hear n < place w) (λ w is. omega (arith, is.0.0, is.1)) hear2 h2) (ends_high to_hear (omega arith) o4 at)
 
   high1 : (o3 o4 : Option WaitingRow) → IfSome o3 (λ w. place w ≡ place_of to_hear n) → IfSome o4 (λ w. place w ≡ place_of to_end n)
       → AllByRecursion (λ w. place_of to_send n < place w) (behind1 o3 o4)
   high1 o3 o4 at3 at4 = all-append (λ w. place_of to_send n < place w) send2 (answer ++ ((hear1 ++ cons_option o3 hear2) ++ (end1 ++ cons_option o4 end2)))
-      (all_weaker (λ w. IsOf to_send end_of_numbers w × (n < w.number)) (λ w. place_of to_send n < place w) (λ w is. omega (arith, is.0.0, is.1)) send2 s2)
-      (all-append (λ w. place_of to_send n < place w) answer ((hear1 ++ cons_option o3 hear2) ++ (end1 ++ cons_option o4 end2)) (all_weaker (IsOf to_send_receipt end_of_numbers) (λ w. place_of to_send n < place w) (λ w is. omega (arith, is.0, small)) answer a)
+      (all_weaker (λ w. IsEvidenceAsked to_send end_of_numbers w × (n < w.number)) (λ w. place_of to_send n < place w) (λ w is. omega (arith, is.0.0, is.1)) send2 s2)
+      (all-append (λ w. place_of to_send n < place w) answer ((hear1 ++ cons_option o3 hear2) ++ (end1 ++ cons_option o4 end2)) (all_weaker (IsEvidenceAsked to_send_receipt end_of_numbers) (λ w. place_of to_send n < place w) (λ w is. omega (arith, is.0, small)) answer a)
       (all-append (λ w. place_of to_send n < place w) (hear1 ++ cons_option o3 hear2) (end1 ++ cons_option o4 end2)
-      (all-append (λ w. place_of to_send n < place w) hear1 (cons_option o3 hear2) (all_weaker (IsOf to_hear n) (λ w. place_of to_send n < place w) (λ w is. omega (arith, is.0, small)) hear1 h1)
-      (own o3 at3 (all_weaker (λ w. IsOf to_hear end_of_numbers w × (n < w.number)) (λ w. place_of to_send n < place w) (λ w is. omega (arith, is.0.0, small)) hear2 h2)))
+      (all-append (λ w. place_of to_send n < place w) hear1 (cons_option o3 hear2) (all_weaker (IsEvidenceAsked to_hear n) (λ w. place_of to_send n < place w) (λ w is. omega (arith, is.0, small)) hear1 h1)
+      (own o3 at3 (all_weaker (λ w. IsEvidenceAsked to_hear end_of_numbers w × (n < w.number)) (λ w. place_of to_send n < place w) (λ w is. omega (arith, is.0.0, small)) hear2 h2)))
       (ends_high to_send (omega arith) o4 at4)))
     where
       own : (o : Option WaitingRow) → IfSome o (λ w. place w ≡ place_of to_hear n) → AllByRecursion (λ w. place_of to_send n < place w) hear2
@@ -244,11 +244,11 @@ still P p (w ∷ ws) all = go (p w) (still P p ws all.1)
 module _ (n : ℕ) (small : n < end_of_numbers) (front back : List OutEntry) (inbox : List InEntry)
     (low : AllByRecursion (λ (d : OutEntry). d.number < n) front) (high : AllByRecursion (λ (d : OutEntry). n < d.number) back) (outs : AllByRecursion (λ (d : OutEntry). d.number < end_of_numbers) back)
     (ins : AllByRecursion (λ k. k < end_of_numbers) (map (λ (e : InEntry). e.number) inbox)) where
-  abbrev before : (kind : ℕ) → AllByRecursion (IsOf kind n) (documents_waiting kind front)
+  abbrev before : (kind : ℕ) → AllByRecursion (IsEvidenceAsked kind n) (documents_waiting kind front)
   before kind = documents_of kind n front (all-map (λ k. k < n) (λ (d : OutEntry). d.number) front low)
 
-  abbrev behind : (kind : ℕ) → AllByRecursion (λ w. IsOf kind end_of_numbers w × (n < w.number)) (documents_waiting kind back)
-  behind kind = with_both (IsOf kind end_of_numbers) (λ w. n < w.number) (documents_waiting kind back) (documents_of kind end_of_numbers back (all-map (λ k. k < end_of_numbers) (λ (d : OutEntry). d.number) back outs))
+  abbrev behind : (kind : ℕ) → AllByRecursion (λ w. IsEvidenceAsked kind end_of_numbers w × (n < w.number)) (documents_waiting kind back)
+  behind kind = with_both (IsEvidenceAsked kind end_of_numbers) (λ w. n < w.number) (documents_waiting kind back) (documents_of kind end_of_numbers back (all-map (λ k. k < end_of_numbers) (λ (d : OutEntry). d.number) back outs))
       (still (λ w. n < w.number) (λ w. w.kind == kind) (waiting_out back) (outs_above n back high))
 
   abbrev waiting_of : List OutEntry → List WaitingRow

@@ -24,7 +24,7 @@ use Rattle.as2_store.specs.Settling.{place_of}
 use Rattle.as2_store.proofs.MetaRow.{one_param}
 use Rattle.as2_store.proofs.NumberedRows.{given_rise, ordered_rise, puts_between}
 use Rattle.as2_store.proofs.AddedPieces.{others_then}
-use Rattle.as2_store.proofs.WaitingRows.{IsOf, IsLast}
+use Rattle.as2_store.proofs.WaitingRows.{IsEvidenceAsked, IsLast}
 use Rattle.as2_store.proofs.QueriedRows.{and_true}
 use Rattle.as2_store.proofs.ForeignKeys.{quiet}
 use Rattle.as2_store.proofs.Texts.{number_terms, waiting_take_is, waiting_take_plain}
@@ -97,23 +97,23 @@ number_kept : (n : ℕ) (due : Option ℕ) (o : Option ℕ)
 number_kept n due None = tt
 number_kept n due (Some kind) = refl
 
-by_place : (kind next : ℕ) (ws : List WaitingRow) → AllByRecursion (IsOf kind next) ws → IsAscending IsUnder ws → IsAscending IsBefore ws
+by_place : (kind next : ℕ) (ws : List WaitingRow) → AllByRecursion (IsEvidenceAsked kind next) ws → IsAscending IsUnder ws → IsAscending IsBefore ws
 by_place kind next [] of up = tt
 by_place kind next (w ∷ ws) of up =
-    (all_both (IsOf kind next) (λ v. w.number < v.number) (λ v. place w < place v) (λ v is less. omega (arith, of.0.0, is.0, less)) ws of.1 up.0, by_place kind next ws of.1 up.1)
+    (all_both (IsEvidenceAsked kind next) (λ v. w.number < v.number) (λ v. place w < place v) (λ v is less. omega (arith, of.0.0, is.0, less)) ws of.1 up.0, by_place kind next ws of.1 up.1)
 
 abbrev IsPast : ℕ → WaitingRow → Type 0
 IsPast kind w = kind < w.kind
 
-past : (low kind next : ℕ) → low < kind → (ws : List WaitingRow) → AllByRecursion (IsOf kind next) ws → AllByRecursion (IsPast low) ws
-past low kind next less ws of = all_weaker (IsOf kind next) (IsPast low) (λ w is. omega (arith, less, is.0)) ws of
+past : (low kind next : ℕ) → low < kind → (ws : List WaitingRow) → AllByRecursion (IsEvidenceAsked kind next) ws → AllByRecursion (IsPast low) ws
+past low kind next less ws of = all_weaker (IsEvidenceAsked kind next) (IsPast low) (λ w is. omega (arith, less, is.0)) ws of
 
 -- those of one kind, and behind them those of greater kinds
-then : (kind : ℕ) (xs ys : List WaitingRow) → AllByRecursion (IsOf kind end_of_numbers) xs → IsAscending IsUnder xs → AllByRecursion (IsPast kind) ys
+then : (kind : ℕ) (xs ys : List WaitingRow) → AllByRecursion (IsEvidenceAsked kind end_of_numbers) xs → IsAscending IsUnder xs → AllByRecursion (IsPast kind) ys
     → IsAscending IsBefore ys → IsAscending IsBefore (xs ++ ys)
 then kind xs ys of up behind later =
     ascending-append IsBefore xs ys (by_place kind end_of_numbers xs of up) later
-    (all_weaker (IsOf kind end_of_numbers) (λ x. AllByRecursion (IsBefore x) ys) (λ x is. all_weaker (IsPast kind) (IsBefore x) (λ y far. omega (arith, is.0, is.1, far)) ys behind) xs of)
+    (all_weaker (IsEvidenceAsked kind end_of_numbers) (λ x. AllByRecursion (IsBefore x) ys) (λ x is. all_weaker (IsPast kind) (IsBefore x) (λ y far. omega (arith, is.0, is.1, far)) ys behind) xs of)
 
 pub documents_rise : (kind : ℕ) (ds : List OutEntry) → IsAscending (λ (x y : OutEntry). x.number < y.number) ds
     → IsAscending IsUnder (documents_waiting kind ds)
@@ -122,9 +122,9 @@ documents_rise kind ds up = ascending-filter IsUnder (λ w. w.kind == kind) (fil
 pub receipts_rise : (es : List InEntry) → IsAscending (λ (x y : InEntry). x.number < y.number) es → IsAscending IsUnder (waiting_in es)
 receipts_rise es up = given_rise in_waiting (λ (e : InEntry). e.number) (λ (w : WaitingRow). w.number) (λ e. number_kept e.number e.due (in_kind e.receipt_stage e.attempt)) es up
 
-pub places_rise : (send answer hear end : List WaitingRow) → AllByRecursion (IsOf to_send end_of_numbers) send
-    → AllByRecursion (IsOf to_send_receipt end_of_numbers) answer → AllByRecursion (IsOf to_hear end_of_numbers) hear
-    → AllByRecursion (IsOf to_end end_of_numbers) end → IsAscending IsUnder send → IsAscending IsUnder answer → IsAscending IsUnder hear
+pub places_rise : (send answer hear end : List WaitingRow) → AllByRecursion (IsEvidenceAsked to_send end_of_numbers) send
+    → AllByRecursion (IsEvidenceAsked to_send_receipt end_of_numbers) answer → AllByRecursion (IsEvidenceAsked to_hear end_of_numbers) hear
+    → AllByRecursion (IsEvidenceAsked to_end end_of_numbers) end → IsAscending IsUnder send → IsAscending IsUnder answer → IsAscending IsUnder hear
     → IsAscending IsUnder end → IsTable (map waiting_row (send ++ (answer ++ (hear ++ end))))
 places_rise send answer hear end s a h e us ua uh ue =
     let hears = past to_send_receipt to_hear end_of_numbers (omega arith) hear h in
@@ -167,16 +167,16 @@ taken p (Some w) at front back low high =
 
 pub renewed : (n : ℕ) (new : Option WaitingRow) → IfSome new (IsLast n) → n < end_of_numbers → (o : Option WaitingRow) → IfSome o (IsLast n)
     → (send front back hear end : List WaitingRow)
-    → AllByRecursion (IsOf to_send end_of_numbers) send → AllByRecursion (IsOf to_send_receipt n) front
+    → AllByRecursion (IsEvidenceAsked to_send end_of_numbers) send → AllByRecursion (IsEvidenceAsked to_send_receipt n) front
     → AllByRecursion (λ v. (v.kind ≡ to_send_receipt) × (n < v.number)) back
-    → AllByRecursion (IsOf to_hear end_of_numbers) hear → AllByRecursion (IsOf to_end end_of_numbers) end
+    → AllByRecursion (IsEvidenceAsked to_hear end_of_numbers) hear → AllByRecursion (IsEvidenceAsked to_end end_of_numbers) end
     → noted_rows new (map waiting_row (not_at (place_of to_send_receipt n) (send ++ ((front ++ cons_option o back) ++ (hear ++ end))))) ≡ map waiting_row (send ++ ((front ++ cons_option new back) ++ (hear ++ end)))
 renewed n new is small o was send front back hear end s f b h e =
     let p = place_of to_send_receipt n in
-    let low = all-append (λ q. place q < p) send front (all_weaker (IsOf to_send end_of_numbers) (λ q. place q < p) (λ q of. omega (arith, of.0, of.1)) send s)
-    (all_weaker (IsOf to_send_receipt n) (λ q. place q < p) (λ q of. omega (arith, of.0, of.1)) front f) in
-    let ends = all-append (λ q. p < place q) hear end (all_weaker (IsOf to_hear end_of_numbers) (λ q. p < place q) (λ q of. omega (arith, of.0, of.1, small)) hear h)
-    (all_weaker (IsOf to_end end_of_numbers) (λ q. p < place q) (λ q of. omega (arith, of.0, of.1, small)) end e) in
+    let low = all-append (λ q. place q < p) send front (all_weaker (IsEvidenceAsked to_send end_of_numbers) (λ q. place q < p) (λ q of. omega (arith, of.0, of.1)) send s)
+    (all_weaker (IsEvidenceAsked to_send_receipt n) (λ q. place q < p) (λ q of. omega (arith, of.0, of.1)) front f) in
+    let ends = all-append (λ q. p < place q) hear end (all_weaker (IsEvidenceAsked to_hear end_of_numbers) (λ q. p < place q) (λ q of. omega (arith, of.0, of.1, small)) hear h)
+    (all_weaker (IsEvidenceAsked to_end end_of_numbers) (λ q. p < place q) (λ q of. omega (arith, of.0, of.1, small)) end e) in
     let high = all-append (λ q. p < place q) back (hear ++ end) (all_weaker (λ v. (v.kind ≡ to_send_receipt) × (n < v.number)) (λ q. p < place q) (λ q of. omega (arith, of.0, of.1)) back b) ends in
     ap (λ l. noted_rows new (map waiting_row (not_at p l))) (spread o)
     ∙ ap (λ l. noted_rows new (map waiting_row l)) (taken p o (stood o was) (send ++ front) (back ++ (hear ++ end)) low high)

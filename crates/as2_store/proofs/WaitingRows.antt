@@ -52,8 +52,8 @@ puts_waiting way old new w count has h =
 
 -- ---- kinds and numbers of what waits
 
-abbrev pub IsOf : ℕ → ℕ → WaitingRow → Type 0
-IsOf kind next w = (w.kind ≡ kind) × (w.number < next)
+abbrev pub IsEvidenceAsked : ℕ → ℕ → WaitingRow → Type 0
+IsEvidenceAsked kind next w = (w.kind ≡ kind) × (w.number < next)
 
 small_out : (next n : ℕ) (due : Option ℕ) (o : Option ℕ) (rest : List WaitingRow) → n < next → AllByRecursion (λ w. w.number < next) rest
     → AllByRecursion (λ w. w.number < next) (cons_option (option_map (λ kind. record { kind = kind; number = n; due = due }) o) rest)
@@ -65,8 +65,9 @@ outs_small : (next : ℕ) (ds : List OutEntry) → AllByRecursion (λ n. n < nex
 outs_small next [] all = tt
 outs_small next (d ∷ ds) all = small_out next d.number d.due (out_kind d.detail d.attempt) (waiting_out ds) all.0 (outs_small next ds all.1)
 
-small_in : (next n : ℕ) (due : Option ℕ) (m : ReceiptStage) (a : Attempt) (rest : List WaitingRow) → n < next → AllByRecursion (IsOf to_send_receipt next) rest
-    → AllByRecursion (IsOf to_send_receipt next) (cons_option (option_map (λ kind. record { kind = kind; number = n; due = due }) (in_kind m a)) rest)
+small_in : (next n : ℕ) (due : Option ℕ) (m : ReceiptStage) (a : Attempt) (rest : List WaitingRow) → n < next
+    → AllByRecursion (IsEvidenceAsked to_send_receipt next) rest
+    → AllByRecursion (IsEvidenceAsked to_send_receipt next) (cons_option (option_map (λ kind. record { kind = kind; number = n; due = due }) (in_kind m a)) rest)
 small_in next n due Pending Idle rest small all = ((refl, small), all)
 small_in next n due Pending Running rest small all = ((refl, small), all)
 small_in next n due Pending Last rest small all = all
@@ -75,22 +76,22 @@ small_in next n due Unasked a rest small all = all
 small_in next n due Sent a rest small all = all
 
 pub ins_small : (next : ℕ) (es : List InEntry) → AllByRecursion (λ n. n < next) (map (λ (e : InEntry). e.number) es)
-    → AllByRecursion (IsOf to_send_receipt next) (waiting_in es)
+    → AllByRecursion (IsEvidenceAsked to_send_receipt next) (waiting_in es)
 ins_small next [] all = tt
 ins_small next (e ∷ es) all = small_in next e.number e.due e.receipt_stage e.attempt (waiting_in es) all.0 (ins_small next es all.1)
 
 kind_below : (kind next : ℕ) (ws : List WaitingRow) → AllByRecursion (λ w. w.number < next) ws
-    → AllByRecursion (IsOf kind next) (filter (λ w. w.kind == kind) ws)
+    → AllByRecursion (IsEvidenceAsked kind next) (filter (λ w. w.kind == kind) ws)
 kind_below kind next [] all = tt
 kind_below kind next (w ∷ ws) all = go (w.kind == kind) refl (kind_below kind next ws all.1)
   where
-    go : (t : Bool) → (w.kind == kind) ≡ t → AllByRecursion (IsOf kind next) (filter (λ w. w.kind == kind) ws)
-        → AllByRecursion (IsOf kind next) (cond t (w ∷ filter (λ w. w.kind == kind) ws) (filter (λ w. w.kind == kind) ws))
+    go : (t : Bool) → (w.kind == kind) ≡ t → AllByRecursion (IsEvidenceAsked kind next) (filter (λ w. w.kind == kind) ws)
+        → AllByRecursion (IsEvidenceAsked kind next) (cond t (w ∷ filter (λ w. w.kind == kind) ws) (filter (λ w. w.kind == kind) ws))
     go true is rest = ((grind (arith, nat_tests), all.0), rest)
     go false is rest = rest
 
 pub documents_of : (kind next : ℕ) (ds : List OutEntry) → AllByRecursion (λ n. n < next) (map (λ (d : OutEntry). d.number) ds)
-    → AllByRecursion (IsOf kind next) (documents_waiting kind ds)
+    → AllByRecursion (IsEvidenceAsked kind next) (documents_waiting kind ds)
 documents_of kind next ds all = kind_below kind next (waiting_out ds) (outs_small next ds all)
 
 -- ---- the rows with one more
@@ -108,15 +109,15 @@ kind_is_last Unasked a n due = tt
 kind_is_last Sent a n due = tt
 
 noted_in : (n : ℕ) (o : Option WaitingRow) → IfSome o (IsLast n) → n < end_of_numbers → (send answer hear end : List WaitingRow)
-    → AllByRecursion (IsOf to_send end_of_numbers) send → AllByRecursion (IsOf to_send_receipt n) answer
-    → AllByRecursion (IsOf to_hear end_of_numbers) hear → AllByRecursion (IsOf to_end end_of_numbers) end
+    → AllByRecursion (IsEvidenceAsked to_send end_of_numbers) send → AllByRecursion (IsEvidenceAsked to_send_receipt n) answer
+    → AllByRecursion (IsEvidenceAsked to_hear end_of_numbers) hear → AllByRecursion (IsEvidenceAsked to_end end_of_numbers) end
     → noted_rows o (map waiting_row (send ++ (answer ++ (hear ++ end)))) ≡ map waiting_row (send ++ ((answer ++ cons_option o []) ++ (hear ++ end)))
 noted_in n None last small send answer hear end s a h e = ap (λ l. map waiting_row (send ++ (l ++ (hear ++ end)))) (sym (append-nil answer))
 noted_in n (Some w) last small send answer hear end s a h e =
-    let low = all-append (λ q. place q < place w) send answer (all_weaker (IsOf to_send end_of_numbers) (λ q. place q < place w) (λ q is. omega (arith, is.0, is.1, last.0, last.1)) send s)
-    (all_weaker (IsOf to_send_receipt n) (λ q. place q < place w) (λ q is. omega (arith, is.0, is.1, last.0, last.1)) answer a) in
-    let high = all-append (λ q. place w < place q) hear end (all_weaker (IsOf to_hear end_of_numbers) (λ q. place w < place q) (λ q is. omega (arith, is.0, is.1, last.0, last.1)) hear h)
-    (all_weaker (IsOf to_end end_of_numbers) (λ q. place w < place q) (λ q is. omega (arith, is.0, is.1, last.0, last.1)) end e) in
+    let low = all-append (λ q. place q < place w) send answer (all_weaker (IsEvidenceAsked to_send end_of_numbers) (λ q. place q < place w) (λ q is. omega (arith, is.0, is.1, last.0, last.1)) send s)
+    (all_weaker (IsEvidenceAsked to_send_receipt n) (λ q. place q < place w) (λ q is. omega (arith, is.0, is.1, last.0, last.1)) answer a) in
+    let high = all-append (λ q. place w < place q) hear end (all_weaker (IsEvidenceAsked to_hear end_of_numbers) (λ q. place w < place q) (λ q is. omega (arith, is.0, is.1, last.0, last.1)) hear h)
+    (all_weaker (IsEvidenceAsked to_end end_of_numbers) (λ q. place w < place q) (λ q is. omega (arith, is.0, is.1, last.0, last.1)) end e) in
     ap (λ l. put_row (waiting_row w) (map waiting_row l)) (sym (append_assoc send answer (hear ++ end)))
     ∙ puts_between waiting_row place (λ _. refl) w (send ++ answer) (hear ++ end) low high
     ∙ ap (map waiting_row) (append_assoc send answer (w ∷ (hear ++ end)) ∙ ap (λ l. send ++ l) (sym (append_assoc answer (w ∷ []) (hear ++ end))))
@@ -127,6 +128,6 @@ pub noted : (s : State) (e : InEntry) → AllByRecursion (λ n. n < s.next_in) (
     → noted_rows (in_waiting e) (map waiting_row (all_waiting s)) ≡ map waiting_row (all_waiting (with_received s e))
 noted s e ins outs is small =
     noted_in e.number (in_waiting e) (kind_is_last e.receipt_stage e.attempt e.number e.due) small (documents_waiting to_send s.outbox) (waiting_in s.inbox) (documents_waiting to_hear s.outbox) (documents_waiting to_end s.outbox)
-    (documents_of to_send end_of_numbers s.outbox outs) (subst (λ n. AllByRecursion (IsOf to_send_receipt n) (waiting_in s.inbox)) (sym is) (ins_small s.next_in s.inbox ins))
+    (documents_of to_send end_of_numbers s.outbox outs) (subst (λ n. AllByRecursion (IsEvidenceAsked to_send_receipt n) (waiting_in s.inbox)) (sym is) (ins_small s.next_in s.inbox ins))
     (documents_of to_hear end_of_numbers s.outbox outs) (documents_of to_end end_of_numbers s.outbox outs)
     ∙ ap (λ l. map waiting_row (documents_waiting to_send s.outbox ++ (l ++ (documents_waiting to_hear s.outbox ++ documents_waiting to_end s.outbox)))) (sym (filter_map-append in_waiting s.inbox (e ∷ [])))

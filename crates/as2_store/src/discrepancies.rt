@@ -8,7 +8,7 @@ ghost use Rattle.as2_records.specs.Standing.{may_come};
 ghost use Rattle.as2_store.specs.Calls.{ReadsTables};
 ghost use Rattle.as2_store.specs.Discrepancies.{Compares, IsFirst, all_wanted, documents_wanted, owes_receipt, lower, number_told, receipts_wanted, rows_of, row_shown, wait_row, wait_told, is_waiting};
 ghost use Rattle.as2_store.specs.Stands.{all_waiting};
-ghost use Rattle.as2_store.specs.declared.discrepancies.WaitRow.{WaitRow as RowOf};
+ghost use Rattle.as2_store.specs.declared.discrepancies.PlacedWaitingRow.{PlacedWaitingRow as RowOf};
 
 use crate::counters::next_numbers;
 use crate::fault::fault_of;
@@ -23,7 +23,7 @@ use std::alloc::Global;
 
 /// A row of what waits.
 #[derive(Clone, Copy, Debug, PartialEq, Eq)]
-pub struct WaitRow {
+pub struct PlacedWaitingRow {
     /// Where it stands: one kind after the other, each in order of number.
     pub place: u128,
     /// What is waited for.
@@ -49,11 +49,11 @@ fn shown_rows<S: Alter>(conn: &mut Connection<S>) -> Result<Vec<Row>, Error>
 }
 
 /// What a row shows.
-fn read_row(row: &Row) -> Result<WaitRow, Error>
+fn read_row(row: &Row) -> Result<PlacedWaitingRow, Error>
     ensures { IfOk result (λ read. (w : RowOf) → row.now ≡ row_shown w → read ≡ w) }
 {
     let place: u64 = row.get(0)?;
-    Ok(WaitRow {
+    Ok(PlacedWaitingRow {
         place: u128::from(place),
         kind: row.get(1)?,
         number: row.get(2)?,
@@ -62,7 +62,7 @@ fn read_row(row: &Row) -> Result<WaitRow, Error>
 }
 
 /// What the rows show.
-fn read_rows(alloc: Global, rows: &[Row]) -> Result<Vec<WaitRow>, Error>
+fn read_rows(alloc: Global, rows: &[Row]) -> Result<Vec<PlacedWaitingRow>, Error>
     ensures { IfOk result (λ read. (ws : List RowOf) → rows.now ≡ map row_shown ws → read.items ≡ ws) }
 {
     let mut read = Vec::new(alloc);
@@ -77,7 +77,10 @@ fn read_rows(alloc: Global, rows: &[Row]) -> Result<Vec<WaitRow>, Error>
 }
 
 /// The rows that are kept of what waits, in order of place.
-fn kept_rows<S: Alter>(conn: &mut Connection<S>, alloc: Global) -> Result<Vec<WaitRow>, StoreFault>
+fn kept_rows<S: Alter>(
+    conn: &mut Connection<S>,
+    alloc: Global,
+) -> Result<Vec<PlacedWaitingRow>, StoreFault>
     requires autocommit { conn.old.in_transaction ≡ false }
     ensures autocommit { conn.new.in_transaction ≡ false }
     ensures kept { ReadsTables (λ s kept. kept.items
@@ -90,7 +93,7 @@ fn kept_rows<S: Alter>(conn: &mut Connection<S>, alloc: Global) -> Result<Vec<Wa
 
 /// Adds the row that an entry of this number waits by.
 fn push_row(
-    wanted: &mut Vec<WaitRow>,
+    wanted: &mut Vec<PlacedWaitingRow>,
     wait: Wait,
     number: u64,
     due: Option<u64>,
@@ -100,7 +103,7 @@ fn push_row(
 {
     let kind = wait.code();
     let place = u128::from(kind) * u128::from(END_OF_NUMBERS) + u128::from(number);
-    match wanted.push(WaitRow {
+    match wanted.push(PlacedWaitingRow {
         place,
         kind,
         number,
@@ -122,7 +125,11 @@ fn is_to(document: &OutRow, wait: Wait) -> bool
 }
 
 /// Adds the rows of the documents that wait for this.
-fn push_documents(wanted: &mut Vec<WaitRow>, sent: &[OutRow], wait: Wait) -> Result<(), StoreFault>
+fn push_documents(
+    wanted: &mut Vec<PlacedWaitingRow>,
+    sent: &[OutRow],
+    wait: Wait,
+) -> Result<(), StoreFault>
     ensures pushed { OnOk result (wanted.new.items ≡ wanted.old.items ++ documents_wanted (kind_code wait) sent.now) }
     ensures fault { IfErr result (λ f. may_come f ≡ true) }
 {
@@ -142,7 +149,7 @@ fn owes(entry: &InRow) -> bool
 }
 
 /// Adds the rows of the receipts that are to be sent.
-fn push_receipts(wanted: &mut Vec<WaitRow>, received: &[InRow]) -> Result<(), StoreFault>
+fn push_receipts(wanted: &mut Vec<PlacedWaitingRow>, received: &[InRow]) -> Result<(), StoreFault>
     ensures pushed { OnOk result (wanted.new.items ≡ wanted.old.items ++ receipts_wanted received.now) }
     ensures fault { IfErr result (λ f. may_come f ≡ true) }
 {
@@ -159,7 +166,7 @@ fn wanted_rows(
     alloc: Global,
     received: &[InRow],
     sent: &[OutRow],
-) -> Result<Vec<WaitRow>, StoreFault>
+) -> Result<Vec<PlacedWaitingRow>, StoreFault>
     ensures wanted { IfOk result (λ wanted. wanted.items ≡ all_wanted received.now sent.now) }
     ensures fault { IfErr result (λ f. may_come f ≡ true) }
 {
@@ -172,7 +179,7 @@ fn wanted_rows(
 }
 
 /// How many rows at the head of both are alike.
-fn alike(wanted: &[WaitRow], kept: &[WaitRow]) -> usize
+fn alike(wanted: &[PlacedWaitingRow], kept: &[PlacedWaitingRow]) -> usize
     ensures before { take result wanted.now ≡ take result kept.now }
     ensures there { slice_get wanted.now result ≡ slice_get kept.now result → slice_get wanted.now result ≡ None }
 {
@@ -188,7 +195,7 @@ fn alike(wanted: &[WaitRow], kept: &[WaitRow]) -> usize
 }
 
 /// The row at this place of the list, if there is one.
-fn row_at(rows: &[WaitRow], at: usize) -> Option<WaitRow>
+fn row_at(rows: &[PlacedWaitingRow], at: usize) -> Option<PlacedWaitingRow>
     ensures { result ≡ slice_get rows.now at }
 {
     match rows.get(at) {
@@ -198,7 +205,10 @@ fn row_at(rows: &[WaitRow], at: usize) -> Option<WaitRow>
 }
 
 /// The row of the lower place of the two; where both have one place, the wanted one.
-fn lower_row(wanted: Option<WaitRow>, kept: Option<WaitRow>) -> Option<WaitRow>
+fn lower_row(
+    wanted: Option<PlacedWaitingRow>,
+    kept: Option<PlacedWaitingRow>,
+) -> Option<PlacedWaitingRow>
     ensures { result ≡ lower wanted kept }
 {
     match (wanted, kept) {
@@ -215,7 +225,7 @@ fn lower_row(wanted: Option<WaitRow>, kept: Option<WaitRow>) -> Option<WaitRow>
 }
 
 /// The row of the first difference between what is wanted and what is kept.
-fn difference(wanted: &[WaitRow], kept: &[WaitRow]) -> Option<WaitRow>
+fn difference(wanted: &[PlacedWaitingRow], kept: &[PlacedWaitingRow]) -> Option<PlacedWaitingRow>
     ensures { Compares wanted.now kept.now result }
 {
     let at = alike(wanted, kept);
@@ -223,7 +233,7 @@ fn difference(wanted: &[WaitRow], kept: &[WaitRow]) -> Option<WaitRow>
 }
 
 /// The discrepancy that a row is which isn't kept as it is wanted.
-fn told(row: WaitRow) -> Discrepancy
+fn told(row: PlacedWaitingRow) -> Discrepancy
     ensures { result ≡ wait_told row }
 {
     if row.kind == Wait::ToSendReceipt.code() {
@@ -256,7 +266,7 @@ fn first(
     next: NextNumbers,
     received: &[InRow],
     sent: &[OutRow],
-    kept: &[WaitRow],
+    kept: &[PlacedWaitingRow],
 ) -> Result<Option<Discrepancy>, StoreFault>
     ensures first { IfOk result (IsFirst next received.now sent.now kept.now) }
     ensures fault { IfErr result (λ f. may_come f ≡ true) }

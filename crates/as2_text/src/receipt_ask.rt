@@ -1,3 +1,5 @@
+//! How a head asks for a receipt (RFC 8098, section 2.1).
+
 ghost use Rattle.std.specs.Prelude.{◌≡◌, List, ℕ, false, IfOk, Ok};
 ghost use Rattle.as2_names.specs.Heads.{IsOnceOf};
 ghost use Rattle.as2_text.specs.ReceiptOptions.{are_options, options_in};

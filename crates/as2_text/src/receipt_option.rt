@@ -1,3 +1,5 @@
+//! An option of a request for a receipt (RFC 8098, section 2.2).
+
 // One parameter of a receipt request's options (RFC 8098, section 2.2).
 ghost use Rattle.std.specs.Prelude.{◌≡◌, Some};
 ghost use Rattle.as2_names.specs.Ascii.{comma};

@@ -1,3 +1,5 @@
+//! The options of a request for a receipt (RFC 8098, section 2.2; RFC 4130, section 7.3).
+
 // The options of a receipt request, parameters that semicolons part (RFC 8098, section 2.2).
 ghost use Rattle.std.specs.Prelude.{◌≡◌};
 ghost use Rattle.std.specs.List.{list_all, list_any, slice_split};

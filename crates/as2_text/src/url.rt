@@ -1,3 +1,5 @@
+//! Addresses of HTTP services (RFC 3986, section 3; RFC 9110, section 4.2.1).
+
 ghost use Rattle.std.specs.Prelude.{◌≡◌, ℕ, List, Some, IfSome, IfNone, option_map};
 ghost use Rattle.std.specs.List.{list_all};
 ghost use Rattle.as2_text.specs.Addresses.{IsUrl, address_in, are_host_and_port, authority_of, before_slash, from_slash, is_authority, is_http, is_port, is_target_byte, is_target, may_follow, target_in, address_target, url_of};

@@ -1,8 +1,8 @@
 //! Command lines.
 use crate::arguments::{Arguments, parts_of};
 use as2_commands::{
-    Command, Filter, FirstNumber, Format, Options, Question, RunOptions, Serving, Submission, Task,
-    Wanted, options_in,
+    Command, EvidenceRequest, Filter, FirstNumber, Format, Options, Question, RunOptions, Serving,
+    Submission, Task, options_in,
 };
 use clap::Error;
 use script_lines::Answer;
@@ -142,7 +142,7 @@ fn say_run(answer: &mut Answer, run: &RunOptions) {
 }
 
 /// Answers with which document is to be proved, and where the files go.
-fn say_wanted(answer: &mut Answer, wanted: &Wanted<'_>) {
+fn say_wanted(answer: &mut Answer, wanted: &EvidenceRequest<'_>) {
     answer.say("evidence ");
     answer.say(wanted.mailbox.word());
     answer.say(" ");
@@ -164,7 +164,7 @@ fn say_options(answer: &mut Answer, options: &Options<'_>) {
             answer.say("verify");
             say_format(answer, *format)
         }
-        Task::Prove(run, wanted) => {
+        Task::GatherEvidence(run, wanted) => {
             say_run(answer, run);
             say_wanted(answer, wanted)
         }

@@ -1,3 +1,5 @@
+//! Values of parameters.
+
 use crate::parameters::Parameters;
 
 // What stands behind a media type's first `;`, and the value of its first parameter `a`.

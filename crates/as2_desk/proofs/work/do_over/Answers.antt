@@ -11,8 +11,8 @@ returns-in-Verify-clause-does g c = rw (c.in-Ok.is, c.in-Verify.is) (
   λ known stood. (refl, refl, c.look_through-ran.ensures.unread, c.look_through-ran.ensures.verifies known stood),
 )
 
-pub returns-in-Prove-clause-does : goal.returns-in-Prove-clause-does
-returns-in-Prove-clause-does g c = rw (c.in-Ok.is, c.in-Prove.is) (
-  c.prove-ran.ensures.clean,
-  λ known stood. (refl, c.prove-ran.ensures.unread, c.prove-ran.ensures.proves known stood),
+pub returns-in-GatherEvidence-clause-does : goal.returns-in-GatherEvidence-clause-does
+returns-in-GatherEvidence-clause-does g c = rw (c.in-Ok.is, c.in-GatherEvidence.is) (
+  c.gather-ran.ensures.clean,
+  λ known stood. (refl, c.gather-ran.ensures.unread, c.gather-ran.ensures.proves known stood),
 )

@@ -2,7 +2,7 @@ use Rattle.std.proofs.Common.{◌∙◌, ℕ, List, Option, option_map, ap, subs
 use Rattle.std.proofs.lemmas.Result.{IfOk-weaker}
 use Rattle.as2_audit.specs.declared.findings.Mailbox.TheVariants.{Outbox}
 use Rattle.as2_exchange.specs.declared.outbox.Evidence.{Evidence}
-use Rattle.as2_evidence.specs.Evidence.{IsCame, files_named}
+use Rattle.as2_evidence.specs.Evidence.{IsReceiptMoment, files_named}
 use Rattle.as2_evidence.specs.Pages.{sent_page, stem}
 use Rattle.as2_evidence.proofs.sent.sent_files.Goals as goal
 
@@ -17,7 +17,7 @@ returns c =
       submitted = submitted;
       came = came;
       on = c.date_of-submitted.ensures;
-      then = subst (λ (e : Option Evidence). IsCame e came) c.as_ref.ensures.value c.in_ok-came.ensures;
+      then = subst (λ (e : Option Evidence). IsReceiptMoment e came) c.as_ref.ensures.value c.in_ok-came.ensures;
       are = is ∙ ap (λ (s : List ℕ). files_named s d.content c.body_of.result c.deref-3.result.now) (c.deref-2.ensures ∙ c.in_ok-stem.ensures)
           ∙ ap (λ (r : Option (List ℕ)). files_named front d.content r c.deref-3.result.now) c.body_of.ensures
           ∙ ap (λ (p : List ℕ). files_named front d.content body p)

@@ -2,7 +2,7 @@
 ghost use Rattle.std.specs.Prelude.{◌≡◌, ◌⊎◌, ◌++◌, Option, IfOk, IfSome, OnOk};
 ghost use Rattle.as2_desk.specs.Endings.{EndsRefused};
 ghost use Rattle.as2_desk.specs.Observed.{errors_of, filing_of, console_outcome, output_of};
-ghost use Rattle.as2_desk.specs.Proving.{MakesFiles, MakesWhatCame, PrintsNames, Proves, came_of, making_refusal, name_line, name_lines};
+ghost use Rattle.as2_desk.specs.Evidence.{MakesFiles, MakesEvidenceRead, PrintsNames, GathersEvidence, came_of, making_refusal, name_line, name_lines};
 ghost use Rattle.as2_desk.specs.Statuses.{status_done, status_failed, status_refused};
 ghost use Rattle.as2_desk.specs.Written.{written_of};
 ghost use Rattle.as2_desk.specs.declared.refusal.CommandFault.TheVariants.{Store as Failing};
@@ -14,7 +14,7 @@ use crate::console::Console;
 use crate::refusal::{CommandFault, refuse};
 use crate::status::{DONE, Ran};
 use crate::terms::Terms;
-use as2_commands::Wanted;
+use as2_commands::EvidenceRequest;
 use as2_evidence::{NewFile, evidence};
 use as2_exchange::{Refusal, StoreFault};
 use as2_host::{MakeFiles, MakingFault, OpenFault};
@@ -102,7 +102,7 @@ fn make_what_came<F: MakeFiles, R, W: Sink, H, E: Sink>(
     ensures status { (result.status ≡ status_done)
         ⊎ ((result.status ≡ status_refused) ⊎ (result.status ≡ status_failed)) }
     ensures unread { console.new.input ≡ console.old.input }
-    ensures makes { MakesWhatCame folder.now (came_of (λ v. files_of v.items) came)
+    ensures makes { MakesEvidenceRead folder.now (came_of (λ v. files_of v.items) came)
         (filing_of F.MakeFiles maker.old maker.new)
         (output_of W.Sink console.old console.new) (errors_of E.Sink console.old console.new) result }
     ensures store { result.status ≡ status_failed → (console.new.output ≡ console.old.output)
@@ -122,9 +122,9 @@ fn make_what_came<F: MakeFiles, R, W: Sink, H, E: Sink>(
 }
 
 /// Makes the files that show how the wanted document stands.
-pub(crate) fn prove<K: Records, F: MakeFiles, R, W: Sink, H, E: Sink>(
+pub(crate) fn gather<K: Records, F: MakeFiles, R, W: Sink, H, E: Sink>(
     terms: &Terms<'_>,
-    wanted: Wanted<'_>,
+    wanted: EvidenceRequest<'_>,
     records: &mut K,
     maker: &mut F,
     console: &mut Console<R, W, H, E>,
@@ -135,12 +135,12 @@ pub(crate) fn prove<K: Records, F: MakeFiles, R, W: Sink, H, E: Sink>(
     ensures clean { (K.shows records.new).IsClean → (K.shows records.old).IsClean }
     ensures proves { (known : Option State)
         → IfSome known (λ s. (K.shows records.new).IsClean × (K.shows records.old).Rests s)
-        → Proves terms.now.agreements.now wanted.entry known (filing_of F.MakeFiles maker.old maker.new)
+        → GathersEvidence terms.now.agreements.now wanted.entry known (filing_of F.MakeFiles maker.old maker.new)
         (console_outcome W.Sink E.Sink console.old console.new (λ t. (K.shows records.new).Rests t)) result }
     ensures store { result.status ≡ status_failed → (console.new.output ≡ console.old.output)
         × ((fault : TheFault) × EndsRefused (Failing fault) (errors_of E.Sink console.old console.new) result) }
 {
-    let Wanted {
+    let EvidenceRequest {
         mailbox,
         number,
         folder,

@@ -2,7 +2,7 @@ use Rattle.std.proofs.Common.{◌∙◌, Some, option_map, ap, sym}
 use Rattle.as2_json.specs.Lines.{object_line}
 use Rattle.as2_json.specs.Objects.{document_object}
 use Rattle.as2_records.proofs.Following.{read_ok}
-use Rattle.as2_json.proofs.listing.shown_in_objects.Goals as goal
+use Rattle.as2_json.proofs.listing.show_in_objects.Goals as goal
 
 pub returns-in_ok-document_object-in-Some-clause-shown : goal.returns-in_ok-document_object-in-Some-clause-shown
 returns-in_ok-document_object-in-Some-clause-shown g c =

@@ -48,29 +48,29 @@ MakesFiles folder files filing output errors ran =
     ⊎ (MakesNone folder files filing output errors ran ⊎ (filing.Untouched × output.Untouched × EndsRefused Memory errors ran))
 
 -- what came of reading: files, or no such document, or a fault of the store
-abbrev pub Came : Type 0
-Came = Result (Option (List File)) StoreFault
+abbrev pub EvidenceRead : Type 0
+EvidenceRead = Result (Option (List File)) StoreFault
 
 -- the files that were read are made; without them nothing is, and it is told why
-abbrev pub MakesWhatCame : List ℕ → Came → FilesSeen → WriterSeen → WriterSeen → Ran → Type 0
-MakesWhatCame folder (Ok (Some files)) filing output errors ran = MakesFiles folder files filing output errors ran
-MakesWhatCame folder (Ok None) filing output errors ran = filing.Untouched × output.Untouched × EndsRefused (Station NoSuchNumber) errors ran
-MakesWhatCame folder (Err fault) filing output errors ran = filing.Untouched × output.Untouched × EndsRefused (Store (open_fault.Store fault)) errors ran
+abbrev pub MakesEvidenceRead : List ℕ → EvidenceRead → FilesSeen → WriterSeen → WriterSeen → Ran → Type 0
+MakesEvidenceRead folder (Ok (Some files)) filing output errors ran = MakesFiles folder files filing output errors ran
+MakesEvidenceRead folder (Ok None) filing output errors ran = filing.Untouched × output.Untouched × EndsRefused (Station NoSuchNumber) errors ran
+MakesEvidenceRead folder (Err fault) filing output errors ran = filing.Untouched × output.Untouched × EndsRefused (Store (open_fault.Store fault)) errors ran
 
 -- what came is what the state has of that document
-abbrev pub IsOf : AgreedValues → State → GivenEvidence → Came → Type 0
-IsOf agreements s wanted (Ok files) = IsEvidence agreements s wanted.mailbox wanted.number files
-IsOf agreements s wanted (Err fault) = ⊤
+abbrev pub IsEvidenceAsked : AgreedValues → State → GivenEvidence → EvidenceRead → Type 0
+IsEvidenceAsked agreements s wanted (Ok files) = IsEvidence agreements s wanted.mailbox wanted.number files
+IsEvidenceAsked agreements s wanted (Err fault) = ⊤
 
 -- where the state is known that the records stood for, they stand for it still, and the files are of it
-pub record Proves (agreements : AgreedValues) (wanted : GivenEvidence) (known : Option State) (filing : FilesSeen) (o : Outcome) (ran : Ran) : Type 0 where
-  pub came : Came
+pub record GathersEvidence (agreements : AgreedValues) (wanted : GivenEvidence) (known : Option State) (filing : FilesSeen) (o : Outcome) (ran : Ran) : Type 0 where
+  pub came : EvidenceRead
   -- a fault is one that may come of any call
   pub fault : IfErr came (λ f. may_come f ≡ true)
-  pub reads : IfSome known (λ s. o.Left s × IsOf agreements s wanted came)
-  pub makes : MakesWhatCame wanted.folder came filing o.output o.errors ran
+  pub reads : IfSome known (λ s. o.Left s × IsEvidenceAsked agreements s wanted came)
+  pub makes : MakesEvidenceRead wanted.folder came filing o.output o.errors ran
 
 -- what came, seen as files
-abbrev pub came_of : {V : Type 0} → (V → List File) → Result (Option V) StoreFault → Came
+abbrev pub came_of : {V : Type 0} → (V → List File) → Result (Option V) StoreFault → EvidenceRead
 came_of view (Ok files) = Ok (option_map view files)
 came_of view (Err fault) = Err fault

@@ -2,8 +2,8 @@ use Rattle.std.proofs.Common.{sym}
 use Rattle.as2_commands.specs.Requests.{GivenEvidence}
 use Rattle.as2_evidence.specs.Files.{files_of}
 use Rattle.as2_desk.proofs.Gathered.{fault_came, reads_known}
-use Rattle.as2_desk.specs.Proving.{came_of}
-use Rattle.as2_desk.proofs.proving.prove.Goals as goal
+use Rattle.as2_desk.specs.Evidence.{came_of}
+use Rattle.as2_desk.proofs.evidence.gather.Goals as goal
 
 pub returns-clause-proves : goal.returns-clause-proves
 returns-clause-proves g c =
