@@ -76,7 +76,7 @@ folder = nonempty (default (codes ".") (option (codes "out")))
 
 -- how many connections are served
 abbrev pub count_option : Rule
-count_option = number 1 1000000 (must_be_there (option (codes "count_option")))
+count_option = number 1 1000000 (must_be_there (option (codes "count")))
 
 -- the program by its name alone: it has a version
 abbrev pub titled_program : App
@@ -94,22 +94,22 @@ abbrev pub command : Text → List Rule → Shape
 command name rules = record (new_shape name) { rules = rules }
 
 abbrev pub post_command : Shape
-post_command = command (codes "post_command") (flag (codes "log") ∷ [])
+post_command = command (codes "post") (flag (codes "log") ∷ [])
 
 abbrev pub submit_command : Shape
-submit_command = command (codes "submit_command") (must_be_there (option (codes "from")) ∷ must_be_there (option (codes "to")) ∷ positional (codes "file") ∷ [])
+submit_command = command (codes "submit") (must_be_there (option (codes "from")) ∷ must_be_there (option (codes "to")) ∷ positional (codes "file") ∷ [])
 
 abbrev pub list_command : Shape
-list_command = command (codes "list_command") (positional (codes "kind") ∷ option (codes "state") ∷ format ∷ [])
+list_command = command (codes "list") (positional (codes "kind") ∷ option (codes "state") ∷ format ∷ [])
 
 abbrev pub show_command : Shape
-show_command = command (codes "show_command") (entry ∷ format ∷ [])
+show_command = command (codes "show") (entry ∷ format ∷ [])
 
 abbrev pub evidence_command : Shape
-evidence_command = command (codes "evidence_command") (entry ∷ flag (codes "received") ∷ folder ∷ [])
+evidence_command = command (codes "evidence") (entry ∷ flag (codes "received") ∷ folder ∷ [])
 
 abbrev pub serve_command : Shape
-serve_command = command (codes "serve_command") (must_be_there (option (codes "listen")) ∷ count_option ∷ timeout ∷ idle ∷ [])
+serve_command = command (codes "serve") (must_be_there (option (codes "listen")) ∷ count_option ∷ timeout ∷ idle ∷ [])
 
 abbrev pub commands : List Shape
 commands =

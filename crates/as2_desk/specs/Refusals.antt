@@ -17,7 +17,7 @@ use Rattle.as2_desk.specs.declared.refusal.CommandFault.TheVariants as refusal
 
 -- `refused: NAME`
 abbrev pub refused_line : List ℕ → List ℕ
-refused_line name = codes "status_refused: " ++ (name ++ codes "\n")
+refused_line name = codes "refused: " ++ (name ++ codes "\n")
 
 -- `agreements: NAME`, and the key where there is one
 abbrev pub fault_name_line : List ℕ → Option Key → List ℕ
@@ -56,7 +56,7 @@ refusal_name station.TooLarge = codes "TooLarge"
 abbrev pub error_line : CommandFault → List ℕ
 error_line refusal.CannotRead = refused_line (codes "CannotRead")
 error_line refusal.CannotWrite = refused_line (codes "CannotWrite")
-error_line refusal.Exists = codes "status_refused: CannotWrite\nhint: something of that name is there; nothing was made\n"
+error_line refusal.Exists = codes "refused: CannotWrite\nhint: something of that name is there; nothing was made\n"
 error_line refusal.Memory = refused_line (codes "Memory")
 error_line (refusal.Agreements fault) = agreements_line fault
 error_line (refusal.Store fault) = store_lines fault
