@@ -36,6 +36,11 @@ MEMORY_LIMIT = 64 * 1024  # KiB, of agreements
 LOG_STEPS = 2 * 262_144
 NAMED = re.compile(rb"^(refused|agreements|store): [A-Z][A-Za-z]+( [a-z_]+)?$", re.M)
 MEBIBYTE = 1 << 20
+# what a path that can't be opened is told to be, in PROFILE's words
+NO_FOLDER = "the folder that it stands in isn't there"
+NO_RIGHT = "there is no right to read and write it and its folder"
+NO_FILE = "what stands there is no file of its own: a folder, a link to nothing, or a file with two names"
+JOURNAL = "SQLite left a journal beside it; open it with sqlite3 first"
 
 
 class Runner:
@@ -69,12 +74,14 @@ class Runner:
         elif status in (1, 3) and is_heard and not NAMED.search(said):
             self.differences.differ(f"{what}: no refusal is named", f"{status}, {said[:300]!r}")
 
-    def want(self, what, status, said, *command, **more):
-        """A run whose status and first line on standard error are known before."""
+    def want(self, what, status, said, *command, hint=None, **more):
+        """A run whose status and first line on standard error are known before, and the second, if a hint is wanted."""
         found = self.run(what, *command, **more)
-        line = found[2].split(b"\n")[0].decode("utf-8", "replace")
+        lines = found[2].decode("utf-8", "replace").split("\n")
         if found[0] != "wait":
-            self.differences.expect(what, (found[0], line), (status, said))
+            self.differences.expect(what, (found[0], lines[0]), (status, said))
+            if hint is not None:
+                self.differences.expect(f"{what}: the hint", lines[1:], [f"hint: {hint}", ""])
         return found
 
 
@@ -217,8 +224,13 @@ def paths(runner):
     runner.run("a good store", "post", text=post_of(b"good"), store="good.db")
     os.symlink("good.db", path("to-good.db"))
     os.link(path("good.db"), path("second.db"))
-    for name in ("folder", "to-nothing.db", "to-itself.db", "to-folder.db", "second.db", "absent/x.db", "good.db/x.db"):
-        runner.want(f"a store that is {name}", 3, "store: Refused", "list", "in", store=name)
+    for name in ("folder", "to-nothing.db", "to-itself.db", "to-folder.db", "second.db"):
+        runner.want(f"a store that is {name}", 3, "store: Refused", "list", "in", hint=NO_FILE, store=name)
+    for name in ("absent/x.db", "good.db/x.db"):
+        runner.want(f"a store that is {name}", 3, "store: Refused", "list", "in", hint=NO_FOLDER, store=name)
+    write(runner.desk, "good.db-journal", b"journal")
+    runner.want("a store with a journal of SQLite's", 3, "store: Refused", "list", "in", hint=JOURNAL, store="good.db")
+    os.remove(path("good.db-journal"))
     os.remove(path("second.db"))
     runner.run("a store behind a link", "list", "in", store="to-good.db")
     runner.run("a store with a long name", "list", "in", store="x" * 300)
@@ -375,9 +387,9 @@ def rights(runner):
         os.chmod(os.path.join(folder, "there.db"), file_mode)
         os.chmod(folder, mode)
         for command in (["list", "in"], ["post"], ["tick"]):
-            runner.want(f"{what}: {command[0]}", 3, "store: Refused", *command, store="shut/there.db", text=post_of(b"shut") if command == ["post"] else b"", **more)
+            runner.want(f"{what}: {command[0]}", 3, "store: Refused", *command, hint=NO_RIGHT, store="shut/there.db", text=post_of(b"shut") if command == ["post"] else b"", **more)
         if mode != 0o777:
-            runner.want(f"{what}: a new store", 3, "store: Refused", "tick", store="shut/new.db", **more)
+            runner.want(f"{what}: a new store", 3, "store: Refused", "tick", hint=NO_RIGHT, store="shut/new.db", **more)
         os.chmod(folder, 0o755)
     write(runner.desk, "secret.toml", EXAMPLE.encode())
     os.chmod(runner.desk.path("secret.toml"), 0o000)

@@ -129,6 +129,7 @@ is_event other = false
 abbrev pub FaultMayCome : QuestionInHand → ToPrint → Type 0
 FaultMayCome q (Err (Store open_fault.Held)) = ⊥
 FaultMayCome q (Err (Store open_fault.LogAlone)) = ⊥
+FaultMayCome q (Err (Store (open_fault.Path fault))) = ⊥
 FaultMayCome q (Err (Store (open_fault.Store fault))) = ((fault ≡ store_fault.Full) × (is_event q ≡ true)) ⊎ (may_come fault ≡ true)
 FaultMayCome q told = ⊤
 

@@ -12,7 +12,9 @@ use Rattle.as2_http.specs.declared.stream.Served.{Served}
 use Rattle.as2_http.specs.declared.stream.Served.TheVariants as end
 use Rattle.as2_desk.specs.declared.refusal.CommandFault.{CommandFault}
 use Rattle.as2_host.specs.declared.stores.OpenFault.{OpenFault}
-use Rattle.as2_host.specs.declared.stores.OpenFault.TheVariants.{Held, LogAlone, Store}
+use Rattle.as2_host.specs.declared.stores.OpenFault.TheVariants.{Held, LogAlone, Path, Store}
+use Rattle.as2_host.specs.declared.stores.PathFault.{PathFault}
+use Rattle.as2_host.specs.declared.stores.PathFault.TheVariants as path_fault
 use Rattle.as2_desk.specs.declared.refusal.CommandFault.TheVariants as refusal
 
 -- `refused: NAME`
@@ -35,10 +37,20 @@ store_fault_name store_fault.Full = codes "Full"
 store_fault_name store_fault.NotAStore = codes "NotAStore"
 store_fault_name store_fault.OtherVersion = codes "OtherVersion"
 
+-- what may help where a path can't be opened, in a line of its own
+abbrev pub path_hint : PathFault → List ℕ
+path_hint path_fault.NoFolder = codes "\nhint: the folder that it stands in isn't there\n"
+path_hint path_fault.NoRight = codes "\nhint: there is no right to read and write it and its folder\n"
+path_hint path_fault.NoFile = codes "\nhint: what stands there is no file of its own: a folder, a link to nothing, or a file with two names\n"
+path_hint path_fault.Journal = codes "\nhint: SQLite left a journal beside it; open it with sqlite3 first\n"
+path_hint path_fault.NoRoom = codes "\nhint: the disk has no room\n"
+path_hint path_fault.Other = codes "\nhint: the file system can't open it\n"
+
 -- `store: NAME`, and behind it what may help
 abbrev pub store_lines : OpenFault → List ℕ
 store_lines Held = codes "store: Refused\nhint: another process has the file open\n"
 store_lines LogAlone = codes "store: Refused\nhint: the file isn't there, but a log of it is; nothing was made\n"
+store_lines (Path fault) = codes "store: " ++ (codes "Refused" ++ path_hint fault)
 store_lines (Store store_fault.OtherVersion) = codes "store: OtherVersion\nhint: stores of version 3 are read; 'migrate' makes one of a store of version 1 or 2\n"
 store_lines (Store fault) = codes "store: " ++ (store_fault_name fault ++ codes "\n")
 

@@ -1,6 +1,6 @@
 //! Why something was refused, in one line on standard error.
 ghost use Rattle.std.specs.Prelude.{◌≡◌, ◌⊎◌, ◌≤◌, length, false, true};
-ghost use Rattle.as2_desk.specs.Refusals.{agreements_line, error_line, refusal_name, refusal_status, refused_line, store_fault_name, store_lines};
+ghost use Rattle.as2_desk.specs.Refusals.{agreements_line, error_line, path_hint, refusal_name, refusal_status, refused_line, store_fault_name, store_lines};
 ghost use Rattle.as2_desk.specs.Endings.{EndsRefused};
 ghost use Rattle.as2_desk.specs.Statuses.{status_failed, status_refused};
 ghost use Rattle.as2_desk.specs.Written.{WritesIf, written_of};
@@ -11,7 +11,7 @@ use crate::lines::{Line, joined};
 use crate::status::{FAILED, REFUSED, Ran, end_name};
 use as2_agreement::AgreementFault;
 use as2_exchange::{Refusal, StoreFault};
-use as2_host::OpenFault;
+use as2_host::{OpenFault, PathFault};
 use as2_http::{Served, Sink, push_all};
 
 /// Why what was asked for isn't done.
@@ -100,6 +100,24 @@ fn agreements_line(fault: AgreementFault) -> Line
     line
 }
 
+/// What may help where a path can't be opened, in a line of its own.
+fn path_hint(fault: PathFault) -> &'static str
+    ensures hint { result.now ≡ path_hint fault }
+    ensures short { length result.now ≤ 104 }
+{
+    match fault {
+        PathFault::NoFolder => "\nhint: the folder that it stands in isn't there\n",
+        PathFault::NoRight => "\nhint: there is no right to read and write it and its folder\n",
+        PathFault::NoFile => {
+            "\nhint: what stands there is no file of its own: a folder, a link to nothing, or a file with two names\n"
+        }
+        PathFault::Journal =>
+            "\nhint: SQLite left a journal beside it; open it with sqlite3 first\n",
+        PathFault::NoRoom => "\nhint: the disk has no room\n",
+        PathFault::Other => "\nhint: the file system can't open it\n",
+    }
+}
+
 /// `store: NAME`, and behind it what may help.
 fn store_lines(fault: OpenFault) -> Line
     ensures { result.bytes ≡ store_lines fault }
@@ -115,6 +133,7 @@ fn store_lines(fault: OpenFault) -> Line
             "Refused",
             "\nhint: the file isn't there, but a log of it is; nothing was made\n",
         ),
+        OpenFault::Path(fault) => joined("store: ", "Refused", path_hint(fault)),
         OpenFault::Store(StoreFault::OtherVersion) => joined(
             "store: ",
             "OtherVersion",

@@ -8,7 +8,7 @@ use crate::fronts::{PAGE, Seen, has_mark, lists_no_meta, may_be_store};
 use crate::places::Place;
 use as2_commands::FirstNumber;
 use as2_exchange::StoreFault;
-use as2_host::OpenFault;
+use as2_host::{OpenFault, PathFault};
 use sqlite::{Connection, Options};
 use sqlite_disk::Disk;
 use sqlite_std_file::{OpenError, Unknown};
@@ -16,8 +16,6 @@ use std::alloc::Global;
 use std::hash::{BuildHasher, RandomState};
 use std::io::{ErrorKind, Read};
 use std::{fs, io};
-
-const REFUSED: OpenFault = OpenFault::Store(StoreFault::Refused);
 
 pub(crate) const MEMORY: OpenFault = OpenFault::Store(StoreFault::Memory);
 
@@ -31,10 +29,17 @@ pub struct FileSystem<'a> {
 
 /// What a failed call of the file system is to a store.
 pub(crate) fn fault_of(error: io::Error) -> OpenFault {
-    match error.kind() {
-        ErrorKind::OutOfMemory => MEMORY,
-        _ => REFUSED,
-    }
+    let fault = match error.kind() {
+        ErrorKind::OutOfMemory => return MEMORY,
+        ErrorKind::NotFound | ErrorKind::NotADirectory => PathFault::NoFolder,
+        ErrorKind::PermissionDenied | ErrorKind::ReadOnlyFilesystem => PathFault::NoRight,
+        ErrorKind::IsADirectory | ErrorKind::FilesystemLoop | ErrorKind::Unsupported => {
+            PathFault::NoFile
+        }
+        ErrorKind::StorageFull | ErrorKind::QuotaExceeded => PathFault::NoRoom,
+        _ => PathFault::Other,
+    };
+    OpenFault::Path(fault)
 }
 
 /// Why files can't be had.
@@ -43,7 +48,7 @@ fn unlocked(error: OpenError) -> OpenFault {
         OpenError::Busy => OpenFault::Held,
         OpenError::OutOfMemory => MEMORY,
         OpenError::Io(error) => fault_of(error),
-        OpenError::HotJournal => REFUSED,
+        OpenError::HotJournal => OpenFault::Path(PathFault::Journal),
     }
 }
 
@@ -159,7 +164,8 @@ impl FileSystem<'_> {
         if self.make_closed(alloc, path, first)? || self.is_store(path)? {
             return self.place_of(path);
         }
-        Err(REFUSED)
+        // (what stands there can't be seen: a link to nothing)
+        Err(OpenFault::Path(PathFault::NoFile))
     }
 
     /// The place of the store of that path, where one may stand under it. NotAStore where nothing does.

@@ -5,10 +5,11 @@ use Rattle.as2_records.specs.Standing.{Medium, Standing, may_come}
 use Rattle.as2_host.specs.declared.stores.OpenFault.{OpenFault}
 use Rattle.as2_host.specs.declared.stores.OpenFault.TheVariants as open_fault
 
--- a store has a fault that may come of any call; it is no file of somebody else, and no log
+-- a store has a fault that may come of any call; it is no file of somebody else, no log, and no path that can't be opened
 abbrev pub MayCome : OpenFault → Type 0
 MayCome open_fault.Held = ⊥
 MayCome open_fault.LogAlone = ⊥
+MayCome (open_fault.Path fault) = ⊥
 MayCome (open_fault.Store fault) = may_come fault ≡ true
 
 -- how many stores were opened by that

@@ -9,4 +9,4 @@ mod stores;
 pub use files::{FileFault, MakeFiles, MakingFault, ReadFiles};
 pub use network::{CannotListen, Listens, Network};
 pub use noting::{CountsBusy, Lines, Tally};
-pub use stores::{Entries, Migration, OpenFault, OpenStores};
+pub use stores::{Entries, Migration, OpenFault, OpenStores, PathFault};

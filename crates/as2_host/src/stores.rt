@@ -10,6 +10,23 @@ use as2_exchange::StoreFault;
 use as2_records::Records;
 use std::alloc::Global;
 
+/// Why a path can't be opened, as the file system tells it.
+#[derive(Clone, Copy, Debug, PartialEq, Eq)]
+pub enum PathFault {
+    /// The folder that the file stands in isn't there, or is no folder.
+    NoFolder,
+    /// There is no right to read or to write the file or its folder.
+    NoRight,
+    /// What stands there is no file of its own: a folder, a link to nothing, or a file with two names.
+    NoFile,
+    /// SQLite left a journal beside the file, which only it can play back.
+    Journal,
+    /// The disk has no room.
+    NoRoom,
+    /// The file system has another reason.
+    Other,
+}
+
 /// Why no store is open.
 #[derive(Clone, Copy, Debug, PartialEq, Eq)]
 pub enum OpenFault {
@@ -17,6 +34,8 @@ pub enum OpenFault {
     Held,
     /// The file isn't there, and a log of it is, which a new store would take for its own.
     LogAlone,
+    /// The path can't be opened.
+    Path(PathFault),
     /// The store has this fault.
     Store(StoreFault),
 }

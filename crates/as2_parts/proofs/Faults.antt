@@ -6,7 +6,7 @@ use Rattle.std.proofs.lemmas.Bool.{cases_Bool, or_parts, or_cases, ne_eqb}
 use Rattle.as2_parts.specs.declared.parts.Part.{Part}
 use Rattle.as2_parts.specs.declared.parts.PartFault.{PartFault}
 use Rattle.as2_parts.specs.Lines.{lines, is_delimiter, is_closing, is_mark}
-use Rattle.as2_parts.specs.Parts.{PartText, part_of, before_mark, from_mark, behind_first, behind_preamble, parts_reading, delimiters, parts_fault, part_fault, parts_result}
+use Rattle.as2_parts.specs.Parts.{PartText, part_of, before_mark, from_mark, behind_first, behind_preamble, parts_reading, delimiters, delimiter_fault, part_fault, parts_result}
 use Rattle.as2_parts.proofs.Reading.{closing_after}
 use Rattle.as2_parts.proofs.TwoParts.{cut_from}
 
@@ -44,7 +44,7 @@ not_one : (n : ℕ) → ((1 + (1 + n)) == 1) ≡ false
 not_one n = ne_eqb (1 + (1 + n)) 1 (λ e. absurd (omega (arith, e)))
 
 second_fault : (boundary : List ℕ) (first : PartText) (ls tail : List (List ℕ)) → from_mark boundary ls ≡ tail
-    → result_err (behind_first boundary first tail) ≡ parts_fault (1 + delimiters boundary ls) true
+    → result_err (behind_first boundary first tail) ≡ delimiter_fault (1 + delimiters boundary ls) true
 second_fault boundary first ls [] found = rw (count_by boundary ls [] found) refl
 second_fault boundary first ls (mark ∷ rest) found =
     elim (cases_Bool (is_closing boundary mark)) [
@@ -53,7 +53,7 @@ second_fault boundary first ls (mark ∷ rest) found =
     ]
 
 first_fault : (boundary : List ℕ) (ls tail : List (List ℕ)) → from_mark boundary ls ≡ tail
-    → result_err (behind_preamble boundary tail) ≡ parts_fault (delimiters boundary ls) (list_any (is_closing boundary) ls)
+    → result_err (behind_preamble boundary tail) ≡ delimiter_fault (delimiters boundary ls) (list_any (is_closing boundary) ls)
 first_fault boundary ls [] found = rw (count_by boundary ls [] found) refl
 first_fault boundary ls (mark ∷ rest) found =
     elim (cases_Bool (is_closing boundary mark)) [

@@ -93,8 +93,8 @@ delimiters boundary (line ∷ rest) =
     else delimiters boundary rest
 
 -- the fault of a body that has so many, and has a closing line or has none
-abbrev pub parts_fault : ℕ → Bool → Option PartFault
-parts_fault count closed =
+abbrev pub delimiter_fault : ℕ → Bool → Option PartFault
+delimiter_fault count closed =
     if count == 0 then Some NoDelimiter
     else if not closed then Some NotClosed
     else if count == 1 then Some OnePart
@@ -102,7 +102,7 @@ parts_fault count closed =
 
 -- why a body hasn't two parts, if it hasn't
 abbrev pub part_fault : List ℕ → List ℕ → Option PartFault
-part_fault boundary body = parts_fault (delimiters boundary (lines body)) (list_any (is_closing boundary) (lines body))
+part_fault boundary body = delimiter_fault (delimiters boundary (lines body)) (list_any (is_closing boundary) (lines body))
 
 -- ---- what the code hands out
 

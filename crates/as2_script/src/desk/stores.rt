@@ -10,7 +10,7 @@ ghost use Rattle.as2_store.specs.Stands.{Rests};
 
 use as2_commands::FirstNumber;
 use as2_exchange::StoreFault;
-use as2_host::{Migration, OpenFault, OpenStores};
+use as2_host::{Migration, OpenFault, OpenStores, PathFault};
 use as2_kept::{Kept, adopt, in_memory};
 use as2_records::Records;
 use sqlite::{Connection, MemStore};
@@ -78,6 +78,12 @@ fn found(alloc: Global, word: &str, first: FirstNumber) -> Result<Kept<MemStore>
         "broken" => Err(OpenFault::Store(StoreFault::Disk)),
         "held" => Err(OpenFault::Held),
         "log-alone" => Err(OpenFault::LogAlone),
+        "no-folder" => Err(OpenFault::Path(PathFault::NoFolder)),
+        "no-right" => Err(OpenFault::Path(PathFault::NoRight)),
+        "no-file" => Err(OpenFault::Path(PathFault::NoFile)),
+        "journal" => Err(OpenFault::Path(PathFault::Journal)),
+        "no-room" => Err(OpenFault::Path(PathFault::NoRoom)),
+        "unopened" => Err(OpenFault::Path(PathFault::Other)),
         "other" => Err(OpenFault::Store(StoreFault::NotAStore)),
         "taken" => Err(OpenFault::Store(StoreFault::Refused)),
         "bare" => bare(alloc),
