@@ -9,7 +9,7 @@ use Rattle.as2_desk.specs.FileAgreements.{AgreementsResult, FileComesTo}
 use Rattle.as2_desk.specs.Migrating.{DoesMigration}
 use Rattle.as2_desk.specs.Observed.{Observation, StoresSeen}
 use Rattle.as2_desk.specs.Statuses.{status_done}
-use Rattle.as2_desk.specs.Works.{Begun, DoesWork, IsWork}
+use Rattle.as2_desk.specs.Works.{WorkOrFault, DoesWork, IsWork}
 use Rattle.as2_desk.specs.Written.{Breaks, WritesWhole, WriterSeen}
 use Rattle.as2_desk.specs.declared.refusal.CommandFault.TheVariants.{CannotWrite, Memory}
 use Rattle.as2_desk.specs.declared.status.Ran.{Ran}
@@ -34,7 +34,7 @@ LeavesAll o stored = stored.Untouched × o.filing.Untouched × o.Unasked × o.in
 
 -- Without a document the refusal is told, and nothing is done. Where its store can't be opened that is told, and what was kept is kept. Else the work is done,
 -- from the state that the store began with, where one is known.
-abbrev pub Goes : AgreedValues → RunOptions → Begun → Observation → StoresSeen → Ran → Type 0
+abbrev pub Goes : AgreedValues → RunOptions → WorkOrFault → Observation → StoresSeen → Ran → Type 0
 Goes agreements options (Err refusal) o stored ran = LeavesAll o stored × EndsRefused refusal o.outcome.errors ran
 Goes agreements options (Ok work) o stored ran =
     (stored.Unopened × stored.Kept × o.filing.Untouched × o.Unasked × o.input.Untouched × o.outcome.output.Untouched × Fails stored.Fails o.outcome.errors ran)
@@ -47,7 +47,7 @@ DoesTask contents (Ok agreements) Check o stored ran = stored.Untouched × o.fil
 DoesTask contents (Ok agreements) Migrate o stored ran = o.filing.Untouched × o.Unasked × o.input.Untouched × DoesMigration stored o.outcome.output o.outcome.errors ran
 DoesTask contents (Ok agreements) (Verify options format) o stored ran = Goes agreements options (Ok (Looking format)) o stored ran
 DoesTask contents (Ok agreements) (GatherEvidence options wanted) o stored ran = Goes agreements options (Ok (Gathering wanted)) o stored ran
-DoesTask contents (Ok agreements) (Run options command) o stored ran = (begun : Begun) × IsWork contents command begun × Goes agreements options begun o stored ran
+DoesTask contents (Ok agreements) (Run options command) o stored ran = (begun : WorkOrFault) × IsWork contents command begun × Goes agreements options begun o stored ran
 
 -- the file of that path comes to agreements or to a refusal, and the task to what follows from them
 pub record Runs (contents : List ℕ → Content) (path : List ℕ) (task : Task) (o : Observation) (stored : StoresSeen) (ran : Ran) : Type 0 where

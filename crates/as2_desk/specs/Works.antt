@@ -27,8 +27,8 @@ abbrev pub CommandInHand : Type 0
 CommandInHand = Command NewDocument
 
 -- what is done over the store, or the refusal that stands in its place
-abbrev pub Begun : Type 0
-Begun = Result Work CommandFault
+abbrev pub WorkOrFault : Type 0
+WorkOrFault = Result Work CommandFault
 
 -- the same of a document alone
 abbrev pub asked_of : Result NewDocument CommandFault → Result QuestionInHand CommandFault
@@ -50,12 +50,12 @@ IsAsked contents (question.Outstanding format) asked = asked ≡ Ok (question.Ou
 IsAsked contents (question.Show n format) asked = asked ≡ Ok (question.Show n format)
 IsAsked contents (question.Fetch n) asked = asked ≡ Ok (question.Fetch n)
 
-abbrev pub begin_question : Result QuestionInHand CommandFault → Begun
+abbrev pub begin_question : Result QuestionInHand CommandFault → WorkOrFault
 begin_question (Ok asked) = Ok (At (Ask asked))
 begin_question (Err refusal) = Err refusal
 
 -- the same of a command
-abbrev pub IsWork : (List ℕ → Content) → Command GivenSubmission → Begun → Type 0
+abbrev pub IsWork : (List ℕ → Content) → Command GivenSubmission → WorkOrFault → Type 0
 IsWork contents (Post logs) begun = begun ≡ Ok (At (Post logs))
 IsWork contents (Ask question) begun = (asked : Result QuestionInHand CommandFault) × IsAsked contents question asked × (begun ≡ begin_question asked)
 IsWork contents (Send waits) begun = begun ≡ Ok (At (Send waits))

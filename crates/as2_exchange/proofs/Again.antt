@@ -10,7 +10,7 @@ use Rattle.as2_exchange.specs.Agreement.{Text, Agreements, is_organization, part
 use Rattle.as2_exchange.specs.Readings.{Head, MediaType, names_of, version_fits, type_of, is_report, report_in, id_of, ask_of}
 use Rattle.as2_exchange.specs.State.{Posted, InEntry, State, Digests, Version, LaterVersion, known_digests, origin_of, lasting_part, same_key, received_as, change_received}
 use Rattle.as2_exchange.specs.Events.{Post, Answer, Words, IdUsedBefore, Line, BadNames, BadVersion, UnknownNames, BadType, BadId, BadAsk, UnreadableReceipt}
-use Rattle.as2_exchange.specs.Posts.{Reading, Refuses, IsReceipt, IsDocument, needs, report_posted, document_posted, post_reading, same_post, repeats}
+use Rattle.as2_exchange.specs.Posts.{PostReading, Refuses, IsReceipt, IsDocument, needs, report_posted, document_posted, post_reading, same_post, repeats}
 use Rattle.as2_exchange.specs.Documents.{settle}
 use Rattle.as2_exchange.specs.Lines.{http}
 use Rattle.as2_exchange.specs.Recording.{record_given, record_post, answer_to, requeued_by_repeat, first_entry}
@@ -23,17 +23,17 @@ use Rattle.as2_exchange.proofs.Steady.{step_steady}
 -- ---- where other digests are known, the same is posted
 
 -- what is a document under the one is that document under the other, as far as it was posted
-abbrev Alike : Reading → Reading → Type 0
+abbrev Alike : PostReading → PostReading → Type 0
 Alike r s = (p : Posted) → r ≡ IsDocument p → (q : Posted) × (s ≡ IsDocument q) × (same_post p q ≡ true)
 
-never_document : (r s : Reading) → ((p : Posted) → r ≡ IsDocument p → ⊥) → Alike r s
+never_document : (r s : PostReading) → ((p : Posted) → r ≡ IsDocument p → ⊥) → Alike r s
 never_document r s h p is = absurd (h p is)
 
-needs_alike : {X : Type 0} (o : Option X) (line : Line) (f g : X → Reading) → ((x : X) → Alike (f x) (g x)) → Alike (needs o line f) (needs o line g)
+needs_alike : {X : Type 0} (o : Option X) (line : Line) (f g : X → PostReading) → ((x : X) → Alike (f x) (g x)) → Alike (needs o line f) (needs o line g)
 needs_alike None line f g h = never_document (Refuses line) (Refuses line) (λ p is. cc)
 needs_alike (Some x) line f g h = h x
 
-if_alike : (b : Bool) (x y z w : Reading) → Alike x z → Alike y w → Alike (if b then x else y) (if b then z else w)
+if_alike : (b : Bool) (x y z w : PostReading) → Alike x z → Alike y w → Alike (if b then x else y) (if b then z else w)
 if_alike true x y z w h g = h
 if_alike false x y z w h g = g
 
@@ -101,7 +101,7 @@ new_document_is A s m p y grew (fresh none small is) = (none, is)
 new_document_is A s m p y grew (repeated e there same is) = absurd (let at : y.1.next_in ≡ s.next_in = ap (λ (z : Answer × State). z.1.next_in) is in omega arith)
 new_document_is A s m p y grew (clash e there other is) = absurd (let at : y.1.next_in ≡ s.next_in = ap (λ (z : State). z.next_in) is in omega arith)
 
-was_new : (A : Agreements) (s : State) (m : ℕ) (r : Reading) (y : Answer × State) → post A s m r ≡ Some y → s.next_in < y.1.next_in → (p : Posted)
+was_new : (A : Agreements) (s : State) (m : ℕ) (r : PostReading) (y : Answer × State) → post A s m r ≡ Some y → s.next_in < y.1.next_in → (p : Posted)
     × (r ≡ IsDocument p) × WasNew A s m p y
 unfolding record_post
 was_new A s m (Refuses line) y h grew = absurd (let at : s.next_in ≡ y.1.next_in = ap (λ (z : Answer × State). z.1.next_in) (same_Some _ y h) in omega arith)
@@ -167,7 +167,7 @@ same_under : (A : Agreements) (v w : Version) (head : Head) (body : Text) (p q :
 same_under A v w head body p q here there is = same_document p q (sym here ∙ ap (λ (x : Version). post_reading A (known_digests x) head body) (sym is) ∙ there)
 
 -- the post of a document that repeats the entry, by what it is read as
-posted_again : (A : Agreements) (later : State) (k n : ℕ) (p q : Posted) (first : Answer) (r : Reading) → r ≡ IsDocument q → answer_to A n p ≡ first
+posted_again : (A : Agreements) (later : State) (k n : ℕ) (p q : Posted) (first : Answer) (r : PostReading) → r ≡ IsDocument q → answer_to A n p ≡ first
     → AnswersAlike A later n p (record_given A later k q (received_as later q)) → (end : State) × (post A later k r ≡ Some (first, end))
     × (map lasting_part end.inbox ≡ map lasting_part later.inbox) × (end.next_in ≡ later.next_in) × (end.outbox ≡ later.outbox)
 unfolding record_post AnswersAlike

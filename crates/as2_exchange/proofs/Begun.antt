@@ -7,7 +7,7 @@ use Rattle.std.proofs.lemmas.Option.{same_Some}
 use Rattle.std.proofs.lemmas.Bool.{false≢true}
 use Rattle.as2_exchange.specs.Agreement.{Agreements, Partner, partner_of}
 use Rattle.as2_exchange.specs.State.{State, Version, OutEntry, empty, document}
-use Rattle.as2_exchange.specs.Events.{Done}
+use Rattle.as2_exchange.specs.Events.{AnsweredEvent}
 use Rattle.as2_exchange.specs.Run.{Trace, Run, AnEvent, AMigration, Answered, Failed, migrated_state, accepted_events}
 use Rattle.as2_exchange.specs.History.{FoundAt, Submission, Fact, fact, first_of, last_of, submission, try_in}
 use Rattle.as2_exchange.proofs.Places.{found_place, further, first_of-push, last_of-push}
@@ -29,7 +29,7 @@ still_tried facts (Some f) h = rw (last_of-push try_in facts f) (by (option_map 
     by None (Some x) g = refl
     by None None g = absurd (false≢true g)
 
-begun_run : (A : Agreements) (k : ℕ) (d : Submission) (p : Partner) (past : List Done) (after : List Done) (old : State) (trace : Trace) (new : State)
+begun_run : (A : Agreements) (k : ℕ) (d : Submission) (p : Partner) (past : List AnsweredEvent) (after : List AnsweredEvent) (old : State) (trace : Trace) (new : State)
     → partner_of A d.partner ≡ Some p → IsAsTold A past old → Run A old trace new → first_of (submission k) past ≡ Some (record { it = d; after = after })
     → IsTried (filter_map (fact A k d) after) → IsSomeAnd (document new k) (λ e. e.begun ≡ true)
 begun_run A k d p past after old [] new theirs keeps run found has =
@@ -50,7 +50,7 @@ begun_stays_law A v first one two s t run on k d is begun = by (first_of (submis
     keeps : IsAsTold A (accepted_events v one) s
     keeps = run_keeps A [] (empty v first) one s (begins A v first) run
 
-    by : (o : Option (FoundAt Submission Done)) → first_of (submission k) (accepted_events v one) ≡ o → IsSomeAnd (document t k) (λ e. e.begun ≡ true)
+    by : (o : Option (FoundAt Submission AnsweredEvent)) → first_of (submission k) (accepted_events v one) ≡ o → IsSomeAnd (document t k) (λ e. e.begun ≡ true)
     by None h = absurd (let two : None ≡ Some d = sym (keeps.each k ∙ rw h refl) ∙ is in cc)
     by (Some f) h =
         let known = keeps.ours k f h in

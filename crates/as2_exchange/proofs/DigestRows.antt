@@ -15,7 +15,7 @@ use Rattle.as2_exchange.specs.Readings.{Head, Sync as SyncReceipt, Processed as 
 use Rattle.as2_exchange.specs.State.{State, Posted, FirstVersion, LaterVersion, EarlyDigests, AllDigests, empty}
 use Rattle.as2_exchange.specs.Events.{Post, Begin, Outcome, Answer, Settled, Words, Report, IdUsedBefore, Reply}
 use Rattle.as2_exchange.specs.Posts.{IsDocument, post_reading}
-use Rattle.as2_exchange.specs.Documents.{begun, closed_document}
+use Rattle.as2_exchange.specs.Documents.{begun_document, closed_document}
 use Rattle.as2_exchange.specs.Lines.{http}
 use Rattle.as2_exchange.specs.Recording.{record_post, answer_to, receipt_out, first_entry}
 use Rattle.as2_exchange.specs.Run.{migrated_state}
@@ -132,5 +132,5 @@ r_says = (rw sha256_mic refl, refl)
 
 -- it is a success to a store that knows the digest
 settled_by_it : play detail_1 (with_document (standing 0 Idle (Some 1000) New None)) (Begin 1 1000 ∷ Outcome 1 (Reply 200 (receipt_head (codes "Buyer")) r) 1000 ∷ []) ≡ Some (job_1 buyer ∷ Settled Processed ∷ [], Some Processed)
-unfolding play begun closed_document named_by value_of digits out_id bare
+unfolding play begun_document closed_document named_by value_of digits out_id bare
 settled_by_it = rw (q_names, q_typed, r_read, r_says.0) refl

@@ -6,7 +6,7 @@ use Rattle.as2_exchange.specs.Detail.{Detail, Sending, Awaiting, Attempt, Idle, 
 use Rattle.as2_exchange.specs.Readings.{value_of}
 use Rattle.as2_exchange.specs.State.{LaterVersion, State, OutEntry, empty}
 use Rattle.as2_exchange.specs.Events.{Event, Post, Begin, Outcome, BeginReceipt, OutcomeReceipt, NoAnswer}
-use Rattle.as2_exchange.specs.Documents.{begun, closed_document, submit}
+use Rattle.as2_exchange.specs.Documents.{begun_document, closed_document, submit}
 use Rattle.as2_exchange.specs.Due.{next}
 use Rattle.as2_exchange.specs.OwedReceipts.{begun_receipt, closed_receipt}
 use Rattle.as2_exchange.specs.Recording.{record_post, answer_to}
@@ -43,7 +43,7 @@ due_of_them = refl
 
 -- a document is due when its retry is, and not a second before
 retry_is_next : (seen (next_at 1029 1030) (empty (LaterVersion 0) 1) (submit_to buyer ∷ Begin 1 1000 ∷ Outcome 1 NoAnswer 1000 ∷ []) ≡ Some (None, Some (Document 1)))
-unfolding seen play submit begun closed_document
+unfolding seen play submit begun_document closed_document
 retry_is_next = refl
 
 -- of two documents the one of the smaller number goes first

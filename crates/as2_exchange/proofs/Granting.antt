@@ -9,10 +9,10 @@ use Rattle.as2_exchange.specs.Detail.{ReceiptStage, Unasked, Pending, Sent}
 use Rattle.as2_exchange.specs.Readings.{Job, document_job, receipt_job}
 use Rattle.as2_exchange.specs.State.{State, InEntry, OutEntry, document, received_entry, is_settled}
 use Rattle.as2_exchange.specs.Events.{Answer, Job as AJob, Refused, NoSuchNumber, UnknownOrganization, UnknownPartner, AllSettled, TriesUsedUp, NotDue, Begin, BeginReceipt}
-use Rattle.as2_exchange.specs.Documents.{begun, waits}
+use Rattle.as2_exchange.specs.Documents.{begun_document, waits}
 use Rattle.as2_exchange.specs.OwedReceipts.{is_pending, begun_receipt}
 use Rattle.as2_exchange.specs.Recording.{receipt_out}
-use Rattle.as2_exchange.specs.Step.{act_on, acted_in, step}
+use Rattle.as2_exchange.specs.Step.{act_on, act_in, step}
 use Rattle.as2_exchange.specs.Tries.{where_agreed, is_early}
 
 less : (n k : ℕ) → nat_le n k ≡ false → k < n
@@ -47,8 +47,8 @@ granted_to {E} A organization partner e act job P rest h = by (is_organization A
 abbrev Unsettled : OutEntry → Partner → Type 0
 Unsettled d p = (is_settled d ≡ false) × (d.tries < p.max_tries)
 
-begun_granted : (A : Agreements) (m : ℕ) (d : OutEntry) (job : Job) → (begun A m d).0 ≡ AJob job → IsSomeAnd (partner_of A d.partner) (Unsettled d)
-unfolding begun
+begun_granted : (A : Agreements) (m : ℕ) (d : OutEntry) (job : Job) → (begun_document A m d).0 ≡ AJob job → IsSomeAnd (partner_of A d.partner) (Unsettled d)
+unfolding begun_document
 begun_granted A m d job h =
     granted_to A d.organization d.partner d _ job (Unsettled d)
     (λ p g. let is = granted_by d _ job (document_job A p d.organization d.id d.content) (is_settled d) (nat_le p.max_tries d.tries) (waits d.detail || is_early m d.due) g in (is.0, less p.max_tries d.tries is.1)) h
@@ -62,7 +62,7 @@ pub document_granted : (A : Agreements) (s t : State) (n m : ℕ) (job : Job) �
     × (document s n ≡ Some d) × (is_settled d ≡ false) × IsSomeAnd (partner_of A d.partner) (λ p. d.tries < p.max_tries)
 document_granted A s t n m job h = by (document s n) refl (same_Some _ (AJob job, t) h)
   where
-    by : (o : Option OutEntry) → document s n ≡ o → act_on s n (begun A m) o ≡ (AJob job, t) → (d : OutEntry) × (document s n ≡ Some d)
+    by : (o : Option OutEntry) → document s n ≡ o → act_on s n (begun_document A m) o ≡ (AJob job, t) → (d : OutEntry) × (document s n ≡ Some d)
         × (is_settled d ≡ false) × IsSomeAnd (partner_of A d.partner) (λ p. d.tries < p.max_tries)
     by None at g = absurd (let first : Refused NoSuchNumber ≡ AJob job = ap (λ (y : Answer × State). y.0) g in cc)
     by (Some d) at g =
@@ -94,7 +94,7 @@ pub receipt_granted : (A : Agreements) (s t : State) (n m : ℕ) (job : Job) →
     × (received_entry s n ≡ Some e) × (e.receipt_stage ≡ Pending) × IsSomeAnd (partner_of A e.posted.sender) (λ p. e.tries < p.max_tries)
 receipt_granted A s t n m job h = by (received_entry s n) refl (same_Some _ (AJob job, t) h)
   where
-    by : (o : Option InEntry) → received_entry s n ≡ o → acted_in s n (begun_receipt A m) o ≡ (AJob job, t) → (e : InEntry) × (received_entry s n ≡ Some e)
+    by : (o : Option InEntry) → received_entry s n ≡ o → act_in s n (begun_receipt A m) o ≡ (AJob job, t) → (e : InEntry) × (received_entry s n ≡ Some e)
         × (e.receipt_stage ≡ Pending) × IsSomeAnd (partner_of A e.posted.sender) (λ p. e.tries < p.max_tries)
     by None at g = absurd (let first : Refused NoSuchNumber ≡ AJob job = ap (λ (y : Answer × State). y.0) g in cc)
     by (Some e) at g =

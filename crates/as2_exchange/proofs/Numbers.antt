@@ -5,7 +5,7 @@ use Rattle.std.proofs.lemmas.Bool.Decides.{nat_tests}
 use Rattle.as2_exchange.specs.Agreement.{Text, Agreements, is_organization, partner_of}
 use Rattle.as2_exchange.specs.State.{Posted, InEntry, State, known_digests, origin_of, end_of_numbers, content_limit, received_as}
 use Rattle.as2_exchange.specs.Events.{Event, Post, Submit, Begin, Outcome, Resend, BeginReceipt, OutcomeReceipt, Tick, Answer}
-use Rattle.as2_exchange.specs.Posts.{Reading, Refuses, IsReceipt, IsDocument, post_reading, repeats}
+use Rattle.as2_exchange.specs.Posts.{PostReading, Refuses, IsReceipt, IsDocument, post_reading, repeats}
 use Rattle.as2_exchange.specs.Documents.{submit}
 use Rattle.as2_exchange.specs.Recording.{record_given, record_post}
 use Rattle.as2_exchange.specs.Step.{post, step}
@@ -26,7 +26,7 @@ none_recorded A s m p None h = by (nat_le end_of_numbers s.next_in) _ refl h
     by true x is g = used_up s.next_in is
     by false x is g = absurd (cc)
 
-none_posted : (A : Agreements) (s : State) (m : ℕ) (r : Reading) → post A s m r ≡ None → end_of_numbers ≤ s.next_in
+none_posted : (A : Agreements) (s : State) (m : ℕ) (r : PostReading) → post A s m r ≡ None → end_of_numbers ≤ s.next_in
 unfolding record_post
 none_posted A s m (Refuses line) h = absurd (cc)
 none_posted A s m (IsReceipt r) h = absurd (cc)

@@ -12,12 +12,12 @@ use Rattle.as2_exchange.specs.Agreement.{Text, Agreements, Partner, is_organizat
 use Rattle.as2_exchange.specs.Detail.{Idle, Unasked, Sent}
 use Rattle.as2_exchange.specs.Readings.{Head, ReceiptDelivery, NoReceipt, Sync, Async, is_async, is_report, names_of, version_fits, type_of, id_of, ask_of, report_in}
 use Rattle.as2_exchange.specs.State.{Digests, Version, LaterVersion, known_digests, origin_of, Posted, InEntry, State, empty, lasting_part, same_key, document, received_entry, received_as, change_received}
-use Rattle.as2_exchange.specs.Events.{Event, Post, Submit, Begin, Outcome, Resend, BeginReceipt, OutcomeReceipt, Tick, Answer, Refused, NoSuchNumber, TryAnswer, Line, BadNames, BadVersion, UnknownNames, BadType, UnreadableReceipt, BadId, BadAsk, Done}
-use Rattle.as2_exchange.specs.Posts.{Reading, Refuses, IsReceipt, IsDocument, needs, post_reading, repeats, ReceivedReceipt}
-use Rattle.as2_exchange.specs.Documents.{begun as begun_document, closed_document as closed_document, resent as resent_document}
+use Rattle.as2_exchange.specs.Events.{Event, Post, Submit, Begin, Outcome, Resend, BeginReceipt, OutcomeReceipt, Tick, Answer, Refused, NoSuchNumber, TryAnswer, Line, BadNames, BadVersion, UnknownNames, BadType, UnreadableReceipt, BadId, BadAsk, AnsweredEvent}
+use Rattle.as2_exchange.specs.Posts.{PostReading, Refuses, IsReceipt, IsDocument, needs, post_reading, repeats, ReceivedReceipt}
+use Rattle.as2_exchange.specs.Documents.{begun_document, closed_document, resent_document}
 use Rattle.as2_exchange.specs.OwedReceipts.{is_pending, begun_receipt, closed_receipt}
 use Rattle.as2_exchange.specs.Recording.{record_post, requeued_by_repeat, first_entry}
-use Rattle.as2_exchange.specs.Step.{post, step, acted_in}
+use Rattle.as2_exchange.specs.Step.{post, step, act_in}
 use Rattle.as2_exchange.specs.Run.{Trace, Run, AnEvent, AMigration, Answered, Failed, migrated_state, accepted_events}
 use Rattle.as2_exchange.specs.Invariants.{IsCounter, IsWellFormed}
 use Rattle.as2_exchange.specs.History.{FoundAt, Fact, ATry, AnOutcome, is_job}
@@ -41,7 +41,7 @@ abbrev with_more : List ReceiptFact → Option ReceiptFact → List ReceiptFact
 with_more facts None = facts
 with_more facts (Some f) = facts ++ f ∷ []
 
-facts-push : (A : Agreements) (n : ℕ) (q : Posted) (past : List Done) (x : Done)
+facts-push : (A : Agreements) (n : ℕ) (q : Posted) (past : List AnsweredEvent) (x : AnsweredEvent)
     → filter_map (receipt_fact A n q) (past ++ x ∷ []) ≡ with_more (filter_map (receipt_fact A n q) past) (receipt_fact A n q x)
 facts-push A n q past x = filter_map-append (receipt_fact A n q) past (x ∷ []) ∙ by (receipt_fact A n q x)
   where
@@ -61,13 +61,13 @@ StandsAs Sync p facts e = (e.receipt_stage ≡ Sent) × (e.tries ≡ 0) × (e.at
 StandsAs (Async url) p facts e = (since : FoundAt ℕ Fact) × (since_queued p facts ≡ Some since) × IsOwed p since e
 
 -- the entry of this number and document stands as the events tell
-record EntryStands (A : Agreements) (n : ℕ) (past : List Done) (q : Posted) (e : InEntry) : Type 0 where
+record EntryStands (A : Agreements) (n : ℕ) (past : List AnsweredEvent) (q : Posted) (e : InEntry) : Type 0 where
   partner : Partner
   agreed : AreAgreed A q.receiver q.sender partner
   stands : StandsAs q.how partner (filter_map (receipt_fact A n q) past) e
 
 -- one more event, that leaves the entry so
-stands_on : (A : Agreements) (n : ℕ) (past : List Done) (x : Done) (q : Posted) (e later : InEntry) → EntryStands A n past q e
+stands_on : (A : Agreements) (n : ℕ) (past : List AnsweredEvent) (x : AnsweredEvent) (q : Posted) (e later : InEntry) → EntryStands A n past q e
     → ((p : Partner) (facts : List ReceiptFact) → AreAgreed A q.receiver q.sender p → StandsAs q.how p facts e
     → StandsAs q.how p (with_more facts (receipt_fact A n q x)) later) → EntryStands A n (past ++ x ∷ []) q later
 stands_on A n past x q e later h moves = record {
@@ -77,7 +77,8 @@ stands_on A n past x q e later h moves = record {
 }
 
 -- one more event that is no fact of it
-stands_still : (A : Agreements) (n : ℕ) (past : List Done) (x : Done) (q : Posted) (e : InEntry) → receipt_fact A n q x ≡ None → EntryStands A n past q e
+stands_still : (A : Agreements) (n : ℕ) (past : List AnsweredEvent) (x : AnsweredEvent) (q : Posted) (e : InEntry) → receipt_fact A n q x ≡ None
+    → EntryStands A n past q e
     → EntryStands A n (past ++ x ∷ []) q e
 stands_still A n past x q e none h = stands_on A n past x q e e h (λ p facts agreed stands. subst (λ (o : Option ReceiptFact). StandsAs q.how p (with_more facts o) e) (sym none) stands)
 
@@ -137,22 +138,23 @@ try_closed A (Async url) p facts known got m e agreed h = (
 
 -- ---- the names of a posted document are agreed
 
-IsKnown : Agreements → Reading → Type 0
+IsKnown : Agreements → PostReading → Type 0
 IsKnown A (Refuses line) = ⊤
 IsKnown A (IsReceipt r) = ⊤
 IsKnown A (IsDocument q) = (p : Partner) × AreAgreed A q.receiver q.sender p
 
-needs_known : {X : Type 0} (A : Agreements) (o : Option X) (line : Line) (rest : X → Reading) → ((x : X) → IsKnown A (rest x)) → IsKnown A (needs o line rest)
+needs_known : {X : Type 0} (A : Agreements) (o : Option X) (line : Line) (rest : X → PostReading) → ((x : X) → IsKnown A (rest x))
+    → IsKnown A (needs o line rest)
 unfolding IsKnown
 needs_known A None line rest h = tt
 needs_known A (Some x) line rest h = h x
 
-if_known : (A : Agreements) (b : Bool) (x y : Reading) → IsKnown A x → IsKnown A y → IsKnown A (if b then x else y)
+if_known : (A : Agreements) (b : Bool) (x y : PostReading) → IsKnown A x → IsKnown A y → IsKnown A (if b then x else y)
 if_known A true x y h g = h
 if_known A false x y h g = g
 
 -- the agreements have both names, or the post is refused
-if_agreed : (A : Agreements) (ours theirs : Bool) (rest : Reading) → (ours ≡ true → theirs ≡ true → IsKnown A rest)
+if_agreed : (A : Agreements) (ours theirs : Bool) (rest : PostReading) → (ours ≡ true → theirs ≡ true → IsKnown A rest)
     → IsKnown A (if not (ours && theirs) then Refuses UnknownNames else rest)
 unfolding IsKnown
 if_agreed A true true rest h = h refl refl
@@ -174,7 +176,7 @@ reading_known A known head body =
     (needs_known A (report_in type.0 body) UnreadableReceipt _ (λ r. tt))
     (needs_known A (id_of head) BadId _ (λ id. needs_known A (ask_of head) BadAsk _ (λ ask. agreed_names A names ours theirs)))))))
 
-document_known : (A : Agreements) (r : Reading) (q : Posted) → IsKnown A r → r ≡ IsDocument q → (p : Partner) × AreAgreed A q.receiver q.sender p
+document_known : (A : Agreements) (r : PostReading) (q : Posted) → IsKnown A r → r ≡ IsDocument q → (p : Partner) × AreAgreed A q.receiver q.sender p
 unfolding IsKnown
 document_known A r q h is = subst (IsKnown A) is h
 
@@ -228,7 +230,7 @@ repeated_is A s q d e n o k formed found is same =
 
 -- ---- what a run keeps
 
-record KeepsReceipts (A : Agreements) (past : List Done) (s : State) : Type 0 where
+record KeepsReceipts (A : Agreements) (past : List AnsweredEvent) (s : State) : Type 0 where
   formed : IsWellFormed A s
   each : (n : ℕ) (e : InEntry) → received_entry s n ≡ Some e → EntryStands A n past e.posted e
   unposted : (q : Posted) → received_as s q ≡ None → (n : ℕ) (p : Partner) → since_queued p (filter_map (receipt_fact A n q) past) ≡ None
@@ -252,7 +254,8 @@ gone_before s s' q grows none = by (received_as s q) refl
         absurd (cc)
 
 -- an event that isn't the first post of the document
-still_unposted : (A : Agreements) (n : ℕ) (q : Posted) (p : Partner) (past : List Done) (x : Done) → ((j : ℕ) → receipt_fact A n q x ≡ Some (APost j) → ⊥)
+still_unposted : (A : Agreements) (n : ℕ) (q : Posted) (p : Partner) (past : List AnsweredEvent) (x : AnsweredEvent)
+    → ((j : ℕ) → receipt_fact A n q x ≡ Some (APost j) → ⊥)
     → since_queued p (filter_map (receipt_fact A n q) past) ≡ None → since_queued p (filter_map (receipt_fact A n q) (past ++ x ∷ [])) ≡ None
 still_unposted A n q p past x never h = ap (since_queued p) (facts-push A n q past x) ∙ by (receipt_fact A n q x) never
   where
@@ -261,13 +264,14 @@ still_unposted A n q p past x never h = ap (since_queued p) (facts-push A n q pa
     by (Some (APost j)) never = absurd (never j refl)
     by (Some (OfATry f)) never = since-push p (filter_map (receipt_fact A n q) past) (OfATry f) ∙ ap (λ (o : Option (FoundAt ℕ Fact)). queued_by p o (OfATry f)) h
 
-unposted_on : (A : Agreements) (past : List Done) (s s' : State) (x : Done) → KeepsReceipts A past s → Grows s s'
+unposted_on : (A : Agreements) (past : List AnsweredEvent) (s s' : State) (x : AnsweredEvent) → KeepsReceipts A past s → Grows s s'
     → ((q : Posted) (n : ℕ) → received_as s' q ≡ None → (j : ℕ) → receipt_fact A n q x ≡ Some (APost j) → ⊥) → (q : Posted) → received_as s' q ≡ None
     → (n : ℕ) (p : Partner) → since_queued p (filter_map (receipt_fact A n q) (past ++ x ∷ [])) ≡ None
 unposted_on A past s s' x keeps grows never q none n p = still_unposted A n q p past x (never q n none) (keeps.unposted q (gone_before s s' q grows none) n p)
 
 -- an event that leaves the inbox, and is no fact of any receipt
-quiet : (A : Agreements) (past : List Done) (s s' : State) (x : Done) → KeepsReceipts A past s → IsWellFormed A s' → Grows s s' → s'.inbox ≡ s.inbox
+quiet : (A : Agreements) (past : List AnsweredEvent) (s s' : State) (x : AnsweredEvent) → KeepsReceipts A past s → IsWellFormed A s' → Grows s s'
+    → s'.inbox ≡ s.inbox
     → ((n : ℕ) (q : Posted) → receipt_fact A n q x ≡ None) → KeepsReceipts A (past ++ x ∷ []) s'
 quiet A past s s' x keeps formed grows same none = record {
   formed = formed;
@@ -278,7 +282,8 @@ quiet A past s s' x keeps formed grows same none = record {
 -- ---- a try of one receipt begins or ends
 
 -- the entry that the event acts on, or another one
-acted_entry : (A : Agreements) (past : List Done) (s : State) (k : ℕ) (act : InEntry → Answer × InEntry) (e : Event) (d : InEntry) → KeepsReceipts A past s
+acted_entry : (A : Agreements) (past : List AnsweredEvent) (s : State) (k : ℕ) (act : InEntry → Answer × InEntry) (e : Event) (d : InEntry)
+    → KeepsReceipts A past s
     → ((z : InEntry) → lasting_part (act z).1 ≡ lasting_part z)
     → ((n : ℕ) (q : Posted) (a : Answer) → (k == n) ≡ false → receipt_fact A n q (answered_event s.version e a) ≡ None)
     → ((z : InEntry) (p : Partner) (facts : List ReceiptFact) → AreAgreed A z.posted.receiver z.posted.sender p → StandsAs z.posted.how p facts z
@@ -297,14 +302,14 @@ acted_entry A past s k act e d keeps kept silent moves found n x is true h =
     let of_x = subst (λ (z : InEntry). EntryStands A k (past ++ answered_event s.version e (act d).0 ∷ []) z.posted z) it of_it in
     subst (λ (j : ℕ). EntryStands A j (past ++ answered_event s.version e (act d).0 ∷ []) x.posted x) same of_x
 
-acted_receipts : (A : Agreements) (past : List Done) (s : State) (k : ℕ) (act : InEntry → Answer × InEntry) (e : Event) → KeepsReceipts A past s
+acted_receipts : (A : Agreements) (past : List AnsweredEvent) (s : State) (k : ℕ) (act : InEntry → Answer × InEntry) (e : Event) → KeepsReceipts A past s
     → ((z : InEntry) → lasting_part (act z).1 ≡ lasting_part z)
     → ((n : ℕ) (q : Posted) (a : Answer) → (k == n) ≡ false → receipt_fact A n q (answered_event s.version e a) ≡ None)
     → ((n : ℕ) (q : Posted) (a : Answer) (j : ℕ) → receipt_fact A n q (answered_event s.version e a) ≡ Some (APost j) → ⊥)
     → ((z : InEntry) (p : Partner) (facts : List ReceiptFact) → AreAgreed A z.posted.receiver z.posted.sender p → StandsAs z.posted.how p facts z
     → StandsAs z.posted.how p (with_more facts (receipt_fact A k z.posted (answered_event s.version e (act z).0))) (act z).1) → (o : Option InEntry)
-    → received_entry s k ≡ o → IsWellFormed A (acted_in s k act o).1 → Grows s (acted_in s k act o).1
-    → KeepsReceipts A (past ++ answered_event s.version e (acted_in s k act o).0 ∷ []) (acted_in s k act o).1
+    → received_entry s k ≡ o → IsWellFormed A (act_in s k act o).1 → Grows s (act_in s k act o).1
+    → KeepsReceipts A (past ++ answered_event s.version e (act_in s k act o).0 ∷ []) (act_in s k act o).1
 acted_receipts A past s k act e keeps kept silent never moves None none formed grows = record {
   formed = formed;
   each = λ n d is. stands_still A n past (answered_event s.version e (Refused NoSuchNumber)) d.posted d (silent n d.posted (Refused NoSuchNumber) (absent n d is (k == n) refl)) (keeps.each n d is);
@@ -353,13 +358,13 @@ outcome_fact_is : (v : Version) (A : Agreements) (k : ℕ) (got : TryAnswer) (m 
 unfolding receipt_fact
 outcome_fact_is v A k got m q a = ap (λ (b : Bool). if b then Some (OfATry (AnOutcome m (known_digests v) got)) else None) (same_number k)
 
-begin_receipts : (A : Agreements) (past : List Done) (s : State) (k m : ℕ) → KeepsReceipts A past s → let y = acted_in s k (begun_receipt A m) (received_entry s k) in IsWellFormed A y.1 → Grows s y.1 → KeepsReceipts A (past ++ answered_event s.version (BeginReceipt k m) y.0 ∷ []) y.1
+begin_receipts : (A : Agreements) (past : List AnsweredEvent) (s : State) (k m : ℕ) → KeepsReceipts A past s → let y = act_in s k (begun_receipt A m) (received_entry s k) in IsWellFormed A y.1 → Grows s y.1 → KeepsReceipts A (past ++ answered_event s.version (BeginReceipt k m) y.0 ∷ []) y.1
 begin_receipts A past s k m keeps formed grows =
     acted_receipts A past s k (begun_receipt A m) (BeginReceipt k m) keeps (receipt_begun_lasting A m) (begin_silent s.version A k m) (begin_never s.version A k m)
     (λ z p facts agreed h. subst (λ (o : Option ReceiptFact). StandsAs z.posted.how p (with_more facts o) (begun_receipt A m z).1) (sym (begin_fact_is s.version A k m z.posted (begun_receipt A m z).0)) (try_begun A z.posted.how p facts m z agreed h))
     (received_entry s k) refl formed grows
 
-outcome_receipts : (A : Agreements) (past : List Done) (s : State) (k : ℕ) (got : TryAnswer) (m : ℕ) → KeepsReceipts A past s → let y = acted_in s k (closed_receipt A got m) (received_entry s k) in IsWellFormed A y.1 → Grows s y.1 → KeepsReceipts A (past ++ answered_event s.version (OutcomeReceipt k got m) y.0 ∷ []) y.1
+outcome_receipts : (A : Agreements) (past : List AnsweredEvent) (s : State) (k : ℕ) (got : TryAnswer) (m : ℕ) → KeepsReceipts A past s → let y = act_in s k (closed_receipt A got m) (received_entry s k) in IsWellFormed A y.1 → Grows s y.1 → KeepsReceipts A (past ++ answered_event s.version (OutcomeReceipt k got m) y.0 ∷ []) y.1
 outcome_receipts A past s k got m keeps formed grows =
     acted_receipts A past s k (closed_receipt A got m) (OutcomeReceipt k got m) keeps (receipt_closed_lasting A got m) (outcome_silent s.version A k got m) (outcome_never s.version A k got m)
     (λ z p facts agreed h. subst (λ (o : Option ReceiptFact). StandsAs z.posted.how p (with_more facts o) (closed_receipt A got m z).1) (sym (outcome_fact_is s.version A k got m z.posted (closed_receipt A got m z).0)) (try_closed A z.posted.how p facts (known_digests s.version) got m z agreed h))
@@ -368,7 +373,7 @@ outcome_receipts A past s k got m keeps formed grows =
 -- ---- a document is posted
 
 -- what the post of q at moment m is to the receipt for p
-abbrev PostsFor : Agreements → ℕ → Done → ℕ → Posted → Type 0
+abbrev PostsFor : Agreements → ℕ → AnsweredEvent → ℕ → Posted → Type 0
 PostsFor A o x m q = (n : ℕ) (p : Posted) → receipt_fact A n p x ≡ (if repeats o n p q then Some (APost m) else None)
 
 posts_for : (v : Version) (A : Agreements) (head : Head) (body : Text) (m : ℕ) (a : Answer) (q : Posted)
@@ -376,15 +381,15 @@ posts_for : (v : Version) (A : Agreements) (head : Head) (body : Text) (m : ℕ)
 unfolding receipt_fact
 posts_for v A head body m a q is n p = rw is refl
 
-not_posted : (A : Agreements) (o : ℕ) (x : Done) (m : ℕ) (q : Posted) (n : ℕ) (p : Posted) → PostsFor A o x m q → repeats o n p q ≡ false
+not_posted : (A : Agreements) (o : ℕ) (x : AnsweredEvent) (m : ℕ) (q : Posted) (n : ℕ) (p : Posted) → PostsFor A o x m q → repeats o n p q ≡ false
     → receipt_fact A n p x ≡ None
 not_posted A o x m q n p post h = post n p ∙ rw h refl
 
-is_posted : (A : Agreements) (o : ℕ) (x : Done) (m : ℕ) (q : Posted) (n : ℕ) (p : Posted) → PostsFor A o x m q → repeats o n p q ≡ true
+is_posted : (A : Agreements) (o : ℕ) (x : AnsweredEvent) (m : ℕ) (q : Posted) (n : ℕ) (p : Posted) → PostsFor A o x m q → repeats o n p q ≡ true
     → receipt_fact A n p x ≡ Some (APost m)
 is_posted A o x m q n p post h = post n p ∙ rw h refl
 
-post_one_key : (A : Agreements) (o : ℕ) (x : Done) (m : ℕ) (q : Posted) (n : ℕ) (p : Posted) → PostsFor A o x m q → (j : ℕ)
+post_one_key : (A : Agreements) (o : ℕ) (x : AnsweredEvent) (m : ℕ) (q : Posted) (n : ℕ) (p : Posted) → PostsFor A o x m q → (j : ℕ)
     → receipt_fact A n p x ≡ Some (APost j) → HaveOneKey p q
 post_one_key A o x m q n p post j h = by (repeats o n p q) refl (sym (post n p) ∙ h)
   where
@@ -402,7 +407,7 @@ first_stands (Async url) p facts n m q is since = (found_place [] m, since, queu
 abbrev with_first : State → ℕ → Posted → State
 with_first s m q = record s { inbox = s.inbox ++ first_entry s.next_in m q ∷ []; next_in = s.next_in + 1 }
 
-fresh_receipts : (A : Agreements) (past : List Done) (s : State) (m : ℕ) (q : Posted) (x : Done) → KeepsReceipts A past s
+fresh_receipts : (A : Agreements) (past : List AnsweredEvent) (s : State) (m : ℕ) (q : Posted) (x : AnsweredEvent) → KeepsReceipts A past s
     → PostsFor A (origin_of s.version) x m q → ((p : Partner) × AreAgreed A q.receiver q.sender p) → received_as s q ≡ None
     → IsWellFormed A (with_first s m q) → Grows s (with_first s m q) → KeepsReceipts A (past ++ x ∷ []) (with_first s m q)
 fresh_receipts A past s m q x keeps post known none formed grows = record {
@@ -448,7 +453,7 @@ fresh_receipts A past s m q x keeps post known none formed grows = record {
         absurd (cc)
 
 -- a document that was posted before
-never_new : (A : Agreements) (s s' : State) (x : Done) (m : ℕ) (q : Posted) (d : InEntry) → PostsFor A (origin_of s.version) x m q → Grows s s'
+never_new : (A : Agreements) (s s' : State) (x : AnsweredEvent) (m : ℕ) (q : Posted) (d : InEntry) → PostsFor A (origin_of s.version) x m q → Grows s s'
     → received_as s q ≡ Some d → (p : Posted) (n : ℕ) → received_as s' p ≡ None → (j : ℕ) → receipt_fact A n p x ≡ Some (APost j) → ⊥
 never_new A s s' x m q d post grows found p n gone j h =
     let it = post_one_key A (origin_of s.version) x m q n p post j h in
@@ -461,7 +466,7 @@ others_not : (A : Agreements) (s : State) (q : Posted) (d e : InEntry) (n : ℕ)
 others_not A s q d e n formed found is other false h = h
 others_not A s q d e n formed found is other true h = absurd (other (repeated_is A s q d e n (origin_of s.version) n formed found is h))
 
-repeated_entry : (A : Agreements) (past : List Done) (s : State) (m : ℕ) (q : Posted) (x : Done) (d : InEntry) → KeepsReceipts A past s
+repeated_entry : (A : Agreements) (past : List AnsweredEvent) (s : State) (m : ℕ) (q : Posted) (x : AnsweredEvent) (d : InEntry) → KeepsReceipts A past s
     → PostsFor A (origin_of s.version) x m q → received_as s q ≡ Some d → repeats (origin_of s.version) d.number d.posted q ≡ true → (n : ℕ) (e : InEntry)
     → received_entry (change_received s d.number (requeued_by_repeat m)) n ≡ Some e → (b : Bool) → (d.number == n) ≡ b
     → EntryStands A n (past ++ x ∷ []) e.posted e
@@ -481,7 +486,7 @@ repeated_entry A past s m q x d keeps post found same n e is true h =
     let of_e = subst (λ (z : InEntry). EntryStands A d.number (past ++ x ∷ []) z.posted z) it of_it in
     subst (λ (j : ℕ). EntryStands A j (past ++ x ∷ []) e.posted e) num of_e
 
-repeated_receipts : (A : Agreements) (past : List Done) (s : State) (m : ℕ) (q : Posted) (x : Done) (d : InEntry) → KeepsReceipts A past s
+repeated_receipts : (A : Agreements) (past : List AnsweredEvent) (s : State) (m : ℕ) (q : Posted) (x : AnsweredEvent) (d : InEntry) → KeepsReceipts A past s
     → PostsFor A (origin_of s.version) x m q → received_as s q ≡ Some d → repeats (origin_of s.version) d.number d.posted q ≡ true
     → IsWellFormed A (change_received s d.number (requeued_by_repeat m)) → Grows s (change_received s d.number (requeued_by_repeat m))
     → KeepsReceipts A (past ++ x ∷ []) (change_received s d.number (requeued_by_repeat m))
@@ -500,7 +505,7 @@ clash_not A s q d e n formed found other is true h =
     let num : e.number ≡ n = received_number s n e is in
     absurd (false≢true (sym other ∙ ap (λ (z : InEntry). repeats (origin_of s.version) z.number z.posted q) (sym it) ∙ ap (λ (j : ℕ). repeats (origin_of s.version) j e.posted q) num ∙ h))
 
-clash_receipts : (A : Agreements) (past : List Done) (s : State) (m : ℕ) (q : Posted) (x : Done) (d : InEntry) → KeepsReceipts A past s
+clash_receipts : (A : Agreements) (past : List AnsweredEvent) (s : State) (m : ℕ) (q : Posted) (x : AnsweredEvent) (d : InEntry) → KeepsReceipts A past s
     → PostsFor A (origin_of s.version) x m q → received_as s q ≡ Some d → repeats (origin_of s.version) d.number d.posted q ≡ false → Grows s s
     → KeepsReceipts A (past ++ x ∷ []) s
 clash_receipts A past s m q x d keeps post found other grows = record {
@@ -509,7 +514,7 @@ clash_receipts A past s m q x d keeps post found other grows = record {
   unposted = unposted_on A past s s x keeps grows (never_new A s s x m q d post grows found);
 }
 
-left_receipts : (A : Agreements) (past : List Done) (s : State) (m : ℕ) (q : Posted) (x : Done) (y : Answer × State) → KeepsReceipts A past s
+left_receipts : (A : Agreements) (past : List AnsweredEvent) (s : State) (m : ℕ) (q : Posted) (x : AnsweredEvent) (y : Answer × State) → KeepsReceipts A past s
     → PostsFor A (origin_of s.version) x m q → ((p : Partner) × AreAgreed A q.receiver q.sender p) → RecordedOrSame A s m q (received_as s q) y
     → IsWellFormed A y.1 → Grows s y.1 → KeepsReceipts A (past ++ x ∷ []) y.1
 left_receipts A past s m q x y keeps post known (fresh none small is) formed grows =
@@ -538,7 +543,7 @@ other_quiet : (v : Version) (A : Agreements) (e : Event) (a : Answer) (n : ℕ) 
 unfolding receipt_fact
 other_quiet v A e a n q h = h
 
-post_receipts : (A : Agreements) (past : List Done) (s : State) (head : Head) (body : Text) (m : ℕ) (r : Reading) (y : Answer × State)
+post_receipts : (A : Agreements) (past : List AnsweredEvent) (s : State) (head : Head) (body : Text) (m : ℕ) (r : PostReading) (y : Answer × State)
     → post_reading A (known_digests s.version) head body ≡ r → KeepsReceipts A past s → post A s m r ≡ Some y → IsWellFormed A y.1 → Grows s y.1
     → KeepsReceipts A (past ++ answered_event s.version (Post head body m) y.0 ∷ []) y.1
 unfolding record_post
@@ -546,7 +551,7 @@ post_receipts A past s head body m (Refuses line) y is keeps h formed grows = qu
 post_receipts A past s head body m (IsReceipt r) y is keeps h formed grows = quiet A past s y.1 (answered_event s.version (Post head body m) y.0) keeps formed grows (ap (λ (z : Answer × State). z.1.inbox) (sym (same_Some _ y h)) ∙ (settle_inbox s m r).0) (receipt_quiet s.version A head body m y.0 r is)
 post_receipts A past s head body m (IsDocument q) y is keeps h formed grows = left_receipts A past s m q (answered_event s.version (Post head body m) y.0) y keeps (posts_for s.version A head body m y.0 q is) (document_known A (post_reading A (known_digests s.version) head body) q (reading_known A (known_digests s.version) head body) is) (left_is A s m q (received_as s q) y h) formed grows
 
-step_receipts : (A : Agreements) (past : List Done) (s : State) (e : Event) (y : Answer × State) → KeepsReceipts A past s → step A s e ≡ Some y
+step_receipts : (A : Agreements) (past : List AnsweredEvent) (s : State) (e : Event) (y : Answer × State) → KeepsReceipts A past s → step A s e ≡ Some y
     → IsWellFormed A y.1 → Grows s y.1 → KeepsReceipts A (past ++ answered_event s.version e y.0 ∷ []) y.1
 step_receipts A past s (Post head body m) y keeps h formed grows = post_receipts A past s head body m (post_reading A (known_digests s.version) head body) y refl keeps h formed grows
 step_receipts A past s (Submit organization partner content m) y keeps h formed grows = quiet A past s y.1 _ keeps formed grows (submit_inbox A s organization partner content m y h) (λ n q. other_quiet s.version A (Submit organization partner content m) y.0 n q refl)
@@ -568,14 +573,14 @@ unfolding since_queued
 nothing_received A v first h = record { formed = empty_formed A v first h; each = λ n e is. absurd (cc); unposted = λ q gone n p. refl }
 
 -- a migration leaves the receipts
-migrated_receipts : (A : Agreements) (past : List Done) (s : State) → KeepsReceipts A past s → KeepsReceipts A past (migrated_state s)
+migrated_receipts : (A : Agreements) (past : List AnsweredEvent) (s : State) → KeepsReceipts A past s → KeepsReceipts A past (migrated_state s)
 migrated_receipts A past s keeps = record { formed = migrated_formed A s keeps.formed; each = keeps.each; unposted = keeps.unposted }
 
-run_receipts : (A : Agreements) (past : List Done) (old : State) (trace : Trace) (new : State) → KeepsReceipts A past old → Run A old trace new
+run_receipts : (A : Agreements) (past : List AnsweredEvent) (old : State) (trace : Trace) (new : State) → KeepsReceipts A past old → Run A old trace new
     → KeepsReceipts A (past ++ accepted_events old.version trace) new
 run_receipts A past old [] new keeps run = rw (run, append-nil past) keeps
 run_receipts A past old (AnEvent e (Answered a) ∷ rest) new keeps run =
-    subst (λ (d : List Done). KeepsReceipts A d new) (append_assoc past (answered_event old.version e a ∷ []) (accepted_events old.version rest))
+    subst (λ (d : List AnsweredEvent). KeepsReceipts A d new) (append_assoc past (answered_event old.version e a ∷ []) (accepted_events old.version rest))
     (subst (λ (v : Version). KeepsReceipts A ((past ++ answered_event old.version e a ∷ []) ++ accepted_events v rest) new) (step_steady A old e (a, run.0) run.1).0
     (run_receipts A (past ++ answered_event old.version e a ∷ []) run.0 rest new (step_receipts A past old e (a, run.0) keeps run.1 (step_formed A old e (a, run.0) keeps.formed run.1) (step_grows A old e (a, run.0) run.1)) run.2))
 run_receipts A past old (AnEvent e (Failed fault) ∷ rest) new keeps run = run_receipts A past old rest new keeps run.1

@@ -9,7 +9,7 @@ use Rattle.as2_exchange.specs.Readings.{Head, ReceiptDelivery, NoReceipt, Sync, 
 use Rattle.as2_exchange.specs.State.{AllDigests, LaterVersion, empty}
 use Rattle.as2_exchange.specs.Events.{Post, Nothing, Words, Line, BadNames, BadVersion, UnknownNames, BadType, UnreadableReceipt, BadId, BadAsk, IdUsedBefore, NotProcessed}
 use Rattle.as2_exchange.specs.Lines.{http, status_of}
-use Rattle.as2_exchange.specs.Posts.{Reading, Refuses, IsDocument, post_reading}
+use Rattle.as2_exchange.specs.Posts.{PostReading, Refuses, IsDocument, post_reading}
 use Rattle.as2_exchange.specs.Recording.{record_post, answer_to}
 use Rattle.as2_exchange.proofs.Fixture.{fixture, abc, sha1_mic, q_type_text, m1}
 use Rattle.as2_exchange.proofs.Rows.{play}
@@ -34,11 +34,11 @@ asks options = (codes "disposition-notification-to", codes "a@x") ∷ (codes "di
 abbrev usual : Head
 usual = asks (codes "signed-receipt-micalg=optional, sha1")
 
-abbrev read : Head → Reading
+abbrev read : Head → PostReading
 read head = post_reading fixture AllDigests head abc
 
 -- the line that refuses a post, with its status
-abbrev refusal_told : Reading → Option (ℕ × Line)
+abbrev refusal_told : PostReading → Option (ℕ × Line)
 refusal_told (Refuses line) = Some (status_of line, line)
 refusal_told other = None
 
@@ -80,7 +80,7 @@ abbrev short_head : Head
 short_head = (codes "as2-from", codes "Buyer") ∷ (codes "as2-to", codes "Supplier") ∷ (codes "message-id", m1) ∷ []
 
 -- what a post is read as: its sender, content type, outcome, and how a receipt is asked for
-abbrev seen_as : Reading → Option (Text × Text × Outcome × ReceiptDelivery)
+abbrev seen_as : PostReading → Option (Text × Text × Outcome × ReceiptDelivery)
 seen_as (IsDocument p) = Some (p.sender, p.content_type, p.outcome, p.how)
 seen_as other = None
 
@@ -93,7 +93,7 @@ unfolding post_reading names_of version_fits type_of is_report id_of ask_of how_
 quoted_name = refl
 
 -- what becomes of a document from Buyer
-abbrev became_in : Reading → Option Outcome
+abbrev became_in : PostReading → Option Outcome
 became_in (IsDocument p) = Some p.outcome
 became_in other = None
 
@@ -116,7 +116,7 @@ unfolding post_reading names_of version_fits type_of is_report id_of ask_of how_
 signed_and_unsupported = (refl, refl, refl, refl, refl, refl, refl)
 
 -- the digest of the MIC
-abbrev digest_in : Reading → Option Alg
+abbrev digest_in : PostReading → Option Alg
 digest_in (IsDocument p) = option_map (λ mic. mic.digest) p.mic
 digest_in other = None
 

@@ -10,13 +10,13 @@ use Rattle.as2_exchange.specs.Agreement.{Text, Agreements, Partner, Asked, NoRec
 use Rattle.as2_exchange.specs.Readings.{ReceiptDelivery, NoReceipt as NoneAsked, Sync as SyncReceipt, Async as AsyncReceipt, Outcome as WhatBecame, is_processed, named_by}
 use Rattle.as2_exchange.specs.State.{Posted, InEntry, OutEntry, State, Digests, known_digests, origin_of, end_of_numbers, document, document_named, received_entry, received_as, change_document, change_received, is_settled}
 use Rattle.as2_exchange.specs.Events.{Event, Post, Submit, Begin, Outcome, Resend, BeginReceipt, OutcomeReceipt, Tick, Answer, Refused, Submitted, UnknownOrganization, UnknownPartner, TooLarge, TryAnswer, Nothing, Words, NotProcessed, IdUsedBefore, NoSuchMessage}
-use Rattle.as2_exchange.specs.Posts.{ReceivedReceipt, Reading, Refuses, IsReceipt, IsDocument, post_reading, repeats}
+use Rattle.as2_exchange.specs.Posts.{ReceivedReceipt, PostReading, Refuses, IsReceipt, IsDocument, post_reading, repeats}
 use Rattle.as2_exchange.specs.Receipts.{receipt_in_answer, is_delivery, bears}
-use Rattle.as2_exchange.specs.Documents.{begun, waits, resent, is_error, closed_document, closed_by, if_for, delivered_document, failed_try, submit, new_document, settle, settle_for, settled_document, tick}
+use Rattle.as2_exchange.specs.Documents.{begun_document, waits, resent_document, is_error, closed_document, closed_by, if_for, delivered_document, failed_try, submit, new_document, settle, settle_for, settled_document, tick}
 use Rattle.as2_exchange.specs.Lines.{http}
 use Rattle.as2_exchange.specs.OwedReceipts.{begun_receipt, closed_receipt, is_pending, is_shut}
 use Rattle.as2_exchange.specs.Recording.{record_post, record_given, requeued_by_repeat, first_entry, answer_to}
-use Rattle.as2_exchange.specs.Step.{is_refusal, act_on, acted_in, post, step}
+use Rattle.as2_exchange.specs.Step.{is_refusal, act_on, act_in, post, step}
 use Rattle.as2_exchange.specs.Tries.{where_agreed, is_early, is_idle, is_last}
 use Rattle.as2_exchange.specs.Invariants.{HasDistinctNumbers}
 use Rattle.as2_exchange.proofs.Decisions.{number_is, apart_turned}
@@ -86,8 +86,8 @@ either_acts : {E : Type 0} (e : E) (b : Bool) (x y : Answer × E) → AnswersOnl
 either_acts e true x y h g = h
 either_acts e false x y h g = g
 
-begun_leaves : (A : Agreements) (m : ℕ) (d : OutEntry) → AnswersOnly d (begun A m d)
-unfolding begun
+begun_leaves : (A : Agreements) (m : ℕ) (d : OutEntry) → AnswersOnly d (begun_document A m d)
+unfolding begun_document
 begun_leaves A m d = agreed_leaves A d.organization d.partner d _
     (λ p. test_leaves d (is_settled d) _ _
     (test_leaves d (nat_le p.max_tries d.tries) _ _
@@ -111,8 +111,8 @@ closed_leaves A known got m d = agreed_leaves A d.organization d.partner d _
     (λ p. test_leaves d (is_settled d) _ _
     (test_leaves d (is_idle d.attempt) _ _ (closed_by_leaves p got m d (option_and_then (if_for d) (receipt_in_answer known got)))))
 
-resent_leaves : (A : Agreements) (m : ℕ) (d : OutEntry) → AnswersOnly d (resent A m d)
-unfolding resent
+resent_leaves : (A : Agreements) (m : ℕ) (d : OutEntry) → AnswersOnly d (resent_document A m d)
+unfolding resent_document
 resent_leaves A m d = agreed_leaves A d.organization d.partner d _
     (λ p. test_leaves d (is_settled d) _ _
     (test_leaves d (not (is_error (class_of d.detail))) _ _ (acts d _ refl)))
@@ -141,7 +141,7 @@ acted_leaves A s n act None found leaves apart h = refl
 acted_leaves A s n act (Some d) found leaves apart h = ap (λ (ds : List OutEntry). record s { outbox = ds }) (left_as_is (λ (x : OutEntry). x.number) (λ (x : OutEntry). (act x).1) n d s.outbox apart.sent found (leaves d h))
 
 acted_in_leaves : (A : Agreements) (s : State) (n : ℕ) (act : InEntry → Answer × InEntry) (o : Option InEntry) → received_entry s n ≡ o
-    → ((e : InEntry) → AnswersOnly e (act e)) → HasDistinctNumbers s → AnswersOnly s (acted_in s n act o)
+    → ((e : InEntry) → AnswersOnly e (act e)) → HasDistinctNumbers s → AnswersOnly s (act_in s n act o)
 unfolding AnswersOnly
 acted_in_leaves A s n act None found leaves apart h = refl
 acted_in_leaves A s n act (Some e) found leaves apart h = ap (λ (es : List InEntry). record s { inbox = es }) (left_as_is (λ (x : InEntry). x.number) (λ (x : InEntry). (act x).1) n e s.inbox apart.received found (leaves e h))
@@ -197,7 +197,7 @@ settle_acts s m r (Some d) = by (not (bears r d.organization d.partner d.id && d
     by true t = refl
     by false t = refl
 
-post_acts : (A : Agreements) (s : State) (m : ℕ) (r : Reading) (y : Answer × State) → post A s m r ≡ Some y → is_refusal y.0 ≡ false
+post_acts : (A : Agreements) (s : State) (m : ℕ) (r : PostReading) (y : Answer × State) → post A s m r ≡ Some y → is_refusal y.0 ≡ false
 unfolding settle record_post
 post_acts A s m (Refuses line) y h = ap (λ (z : Answer × State). is_refusal z.0) (sym (same_Some _ y h))
 post_acts A s m (IsReceipt r) y h = ap (λ (z : Answer × State). is_refusal z.0) (sym (same_Some _ y h)) ∙ settle_acts s m r (document_named s (named_by r.receipt))
@@ -210,8 +210,8 @@ tick_acts m s = refl
 step_leaves : (A : Agreements) (s : State) (e : Event) (y : Answer × State) → HasDistinctNumbers s → step A s e ≡ Some y → AnswersOnly s y
 step_leaves A s (Post head body m) y apart h = acts s y (post_acts A s m (post_reading A (known_digests s.version) head body) y h)
 step_leaves A s (Submit organization partner content m) y apart h = submit_leaves A s organization partner content m y h
-step_leaves A s (Begin n m) y apart h = subst (AnswersOnly s) (same_Some _ y h) (acted_leaves A s n (begun A m) (document s n) refl (begun_leaves A m) apart)
-step_leaves A s (Resend n m) y apart h = subst (AnswersOnly s) (same_Some _ y h) (acted_leaves A s n (resent A m) (document s n) refl (resent_leaves A m) apart)
+step_leaves A s (Begin n m) y apart h = subst (AnswersOnly s) (same_Some _ y h) (acted_leaves A s n (begun_document A m) (document s n) refl (begun_leaves A m) apart)
+step_leaves A s (Resend n m) y apart h = subst (AnswersOnly s) (same_Some _ y h) (acted_leaves A s n (resent_document A m) (document s n) refl (resent_leaves A m) apart)
 step_leaves A s (Outcome n got m) y apart h = subst (AnswersOnly s) (same_Some _ y h) (acted_leaves A s n (closed_document A (known_digests s.version) got m) (document s n) refl (closed_leaves A (known_digests s.version) got m) apart)
 step_leaves A s (BeginReceipt n m) y apart h = subst (AnswersOnly s) (same_Some _ y h) (acted_in_leaves A s n (begun_receipt A m) (received_entry s n) refl (receipt_begun_leaves A m) apart)
 step_leaves A s (OutcomeReceipt n got m) y apart h = subst (AnswersOnly s) (same_Some _ y h) (acted_in_leaves A s n (closed_receipt A got m) (received_entry s n) refl (receipt_closed_leaves A got m) apart)

@@ -10,7 +10,7 @@ use Rattle.as2_exchange.specs.Agreement.{Agreements, Partner, is_organization, p
 use Rattle.as2_exchange.specs.Detail.{New, Idle}
 use Rattle.as2_exchange.specs.State.{State, OutEntry, document, is_settled}
 use Rattle.as2_exchange.specs.Events.{Answer, Resend, Resent, Refused, NoSuchNumber, UnknownOrganization, UnknownPartner, AllSettled, NotDue}
-use Rattle.as2_exchange.specs.Documents.{resent, is_error}
+use Rattle.as2_exchange.specs.Documents.{resent_document, is_error}
 use Rattle.as2_exchange.specs.Step.{act_on, step}
 
 -- no receipt has settled it, and its state is E
@@ -33,8 +33,8 @@ resent_by m d true c hb hc h = absurd (cc)
 resent_by m d false true hb hc h = absurd (cc)
 resent_by m d false false hb hc h = (hb, in_error (class_of d.detail) hc)
 
-resent_failed : (A : Agreements) (m : ℕ) (d : OutEntry) → (resent A m d).0 ≡ Resent → HasFailed d
-unfolding resent
+resent_failed : (A : Agreements) (m : ℕ) (d : OutEntry) → (resent_document A m d).0 ≡ Resent → HasFailed d
+unfolding resent_document
 resent_failed A m d = by (is_organization A d.organization) (partner_of A d.partner)
   where
     given : Bool → Option Partner → Answer × OutEntry
@@ -49,7 +49,7 @@ pub failed_resent : (A : Agreements) (s t : State) (n m : ℕ) → step A s (Res
     × (is_settled d ≡ false) × (class_of d.detail ≡ E)
 failed_resent A s t n m h = by (document s n) refl (same_Some _ (Resent, t) h)
   where
-    by : (o : Option OutEntry) → document s n ≡ o → act_on s n (resent A m) o ≡ (Resent, t) → (d : OutEntry) × (document s n ≡ Some d)
+    by : (o : Option OutEntry) → document s n ≡ o → act_on s n (resent_document A m) o ≡ (Resent, t) → (d : OutEntry) × (document s n ≡ Some d)
         × (is_settled d ≡ false) × (class_of d.detail ≡ E)
     by None at g = absurd (let first : Refused NoSuchNumber ≡ Resent = ap (λ (y : Answer × State). y.0) g in cc)
     by (Some d) at g = let is = resent_failed A m d (ap (λ (y : Answer × State). y.0) g) in (d, at, is.0, is.1)

@@ -12,7 +12,7 @@ use Rattle.as2_exchange.specs.State.{OutEntry, Digests, is_settled}
 use Rattle.as2_exchange.specs.Events.{Answer, TryAnswer, Refused, AllSettled, TriesUsedUp, NotDue, NoOpenTry, AlreadySettled, Resent}
 use Rattle.as2_exchange.specs.Posts.{ReceivedReceipt}
 use Rattle.as2_exchange.specs.Receipts.{receipt_in_answer, is_delivery}
-use Rattle.as2_exchange.specs.Documents.{settled_document, passes_at, passed_document, passes_into, begun, waits, resent, is_error, closed_document, closed_by, if_for, delivered_document, failed_try}
+use Rattle.as2_exchange.specs.Documents.{settled_document, passes_at, passed_document, passes_into, begun_document, waits, resent_document, is_error, closed_document, closed_by, if_for, delivered_document, failed_try}
 use Rattle.as2_exchange.specs.Tries.{is_due, is_early, is_idle, is_last}
 use Rattle.as2_exchange.specs.Invariants.{is_by_receipt, IsEntry}
 use Rattle.as2_exchange.proofs.Documents.{settled_names, passed_names, begun_names, closed_names, resent_names, agreed_either, if_either, changed, changed_names}
@@ -103,12 +103,12 @@ begun_by d x a false true b3 is h g = h
 begun_by d x a false false true is h g = h
 begun_by d x a false false false is h g = g is
 
-begun_entry : (A : Agreements) (m : ℕ) (d : OutEntry) → IsEntry d → IsEntry (begun A m d).1
-unfolding begun
+begun_entry : (A : Agreements) (m : ℕ) (d : OutEntry) → IsEntry d → IsEntry (begun_document A m d).1
+unfolding begun_document
 begun_entry A m d h = agreed_either IsEntry A d.organization d.partner d _ h
     (λ p. begun_by d _ _ (is_settled d) (nat_le p.max_tries d.tries) (waits d.detail || is_early m d.due) refl h (λ none. unsettled_entry _ none refl (λ g. refl)))
 
-pub begun_keeps : (A : Agreements) (m : ℕ) → KeepsEntries (λ d. (begun A m d).1)
+pub begun_keeps : (A : Agreements) (m : ℕ) → KeepsEntries (λ d. (begun_document A m d).1)
 begun_keeps A m = record { names = begun_names A m; entry = begun_entry A m }
 
 -- ---- a try ends
@@ -153,10 +153,10 @@ resent_by m d true b2 is h = h
 resent_by m d false true is h = h
 resent_by m d false false is h = unsettled_entry _ is refl (λ g. absurd (omega (arith, g)))
 
-resent_entry : (A : Agreements) (m : ℕ) (d : OutEntry) → IsEntry d → IsEntry (resent A m d).1
-unfolding resent
+resent_entry : (A : Agreements) (m : ℕ) (d : OutEntry) → IsEntry d → IsEntry (resent_document A m d).1
+unfolding resent_document
 resent_entry A m d h = agreed_either IsEntry A d.organization d.partner d _ h
     (λ p. resent_by m d (is_settled d) (not (is_error (class_of d.detail))) refl h)
 
-pub resent_keeps : (A : Agreements) (m : ℕ) → KeepsEntries (λ d. (resent A m d).1)
+pub resent_keeps : (A : Agreements) (m : ℕ) → KeepsEntries (λ d. (resent_document A m d).1)
 resent_keeps A m = record { names = resent_names A m; entry = resent_entry A m }

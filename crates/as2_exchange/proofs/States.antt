@@ -7,11 +7,11 @@ use Rattle.as2_exchange.specs.Agreement.{Text, Agreements, is_organization, part
 use Rattle.as2_exchange.specs.Readings.{Head, MediaType, ReceiptAsk, Outcome as WhatBecame, Processed, DecryptionFailed, DecompressionFailed, AuthenticationFailed, UnsupportedFormat, UnsupportedMicAlgorithms, is_processed, mic_for, is_report, names_of, version_fits, type_of, id_of, ask_of, report_in, named_by}
 use Rattle.as2_exchange.specs.State.{Posted, InEntry, OutEntry, State, Digests, Version, known_digests, empty, end_of_numbers, document, document_named, received_entry, received_as, change_document, change_received, lasting_part, is_settled}
 use Rattle.as2_exchange.specs.Events.{Event, Post, Submit, Begin, Outcome, Resend, BeginReceipt, OutcomeReceipt, Tick, Answer, Refused, Submitted, UnknownOrganization, UnknownPartner, TooLarge, Line, BadNames, BadVersion, UnknownNames, BadType, UnreadableReceipt, BadId, BadAsk}
-use Rattle.as2_exchange.specs.Posts.{ReceivedReceipt, Reading, Refuses, IsReceipt, IsDocument, needs, report_posted, document_posted, post_reading}
-use Rattle.as2_exchange.specs.Documents.{settle, settle_for, settled_document, submit, new_document, begun, closed_document, resent, tick}
+use Rattle.as2_exchange.specs.Posts.{ReceivedReceipt, PostReading, Refuses, IsReceipt, IsDocument, needs, report_posted, document_posted, post_reading}
+use Rattle.as2_exchange.specs.Documents.{settle, settle_for, settled_document, submit, new_document, begun_document, closed_document, resent_document, tick}
 use Rattle.as2_exchange.specs.OwedReceipts.{begun_receipt, closed_receipt}
 use Rattle.as2_exchange.specs.Recording.{record_post, first_entry, requeued_by_repeat}
-use Rattle.as2_exchange.specs.Step.{post, step, act_on, acted_in}
+use Rattle.as2_exchange.specs.Step.{post, step, act_on, act_in}
 use Rattle.as2_exchange.specs.Run.{Trace, Run, AnEvent, AMigration, Answered, Failed, migrated_state}
 use Rattle.as2_exchange.specs.Invariants.{IsCounter, IsRecorded, IsWellFormed}
 use Rattle.as2_exchange.proofs.Documents.{if_either}
@@ -32,17 +32,17 @@ mic_there known UnsupportedFormat ask content = refl
 mic_there known UnsupportedMicAlgorithms ask content = refl
 
 -- what a post is read as
-IsGood : Reading → Type 0
+IsGood : PostReading → Type 0
 IsGood (Refuses line) = ⊤
 IsGood (IsReceipt r) = ⊤
 IsGood (IsDocument p) = IsRecorded p
 
-needs_good : {X : Type 0} (o : Option X) (line : Line) (rest : X → Reading) → ((x : X) → IsGood (rest x)) → IsGood (needs o line rest)
+needs_good : {X : Type 0} (o : Option X) (line : Line) (rest : X → PostReading) → ((x : X) → IsGood (rest x)) → IsGood (needs o line rest)
 unfolding IsGood
 needs_good None line rest h = tt
 needs_good (Some x) line rest h = h x
 
-if_good : (b : Bool) (x y : Reading) → IsGood x → IsGood y → IsGood (if b then x else y)
+if_good : (b : Bool) (x y : PostReading) → IsGood x → IsGood y → IsGood (if b then x else y)
 if_good true x y h g = h
 if_good false x y h g = g
 
@@ -65,7 +65,7 @@ reading_good A known head body =
     (needs_good (type_of head) BadType _ (λ type.
     if_good (is_report type.0) _ _ (report_good known names type body) (document_good known names type head body)))))
 
-document_recorded : (r : Reading) (p : Posted) → IsGood r → r ≡ IsDocument p → IsRecorded p
+document_recorded : (r : PostReading) (p : Posted) → IsGood r → r ≡ IsDocument p → IsRecorded p
 unfolding IsGood
 document_recorded r p h is = subst IsGood is h
 
@@ -95,7 +95,7 @@ acted_formed A s n act None kept h = h
 acted_formed A s n act (Some d) kept h = document_formed A s n (λ d. (act d).1) kept h
 
 acted_in_formed : (A : Agreements) (s : State) (n : ℕ) (act : InEntry → Answer × InEntry) (o : Option InEntry)
-    → ((e : InEntry) → lasting_part (act e).1 ≡ lasting_part e) → IsWellFormed A s → IsWellFormed A (acted_in s n act o).1
+    → ((e : InEntry) → lasting_part (act e).1 ≡ lasting_part e) → IsWellFormed A s → IsWellFormed A (act_in s n act o).1
 acted_in_formed A s n act None kept h = h
 acted_in_formed A s n act (Some e) kept h = received_formed A s n (λ x. (act x).1) kept h
 
@@ -153,7 +153,8 @@ record_formed : (A : Agreements) (s : State) (m : ℕ) (p : Posted) (y : Answer 
 unfolding record_post
 record_formed A s m p y good h e = left_formed A s m p (received_as s p) y refl good h (left_is A s m p (received_as s p) y e)
 
-post_formed : (A : Agreements) (s : State) (m : ℕ) (r : Reading) (y : Answer × State) → IsGood r → IsWellFormed A s → post A s m r ≡ Some y → IsWellFormed A y.1
+post_formed : (A : Agreements) (s : State) (m : ℕ) (r : PostReading) (y : Answer × State) → IsGood r → IsWellFormed A s → post A s m r ≡ Some y
+    → IsWellFormed A y.1
 post_formed A s m (Refuses line) y good h e = subst (λ (z : Answer × State). IsWellFormed A z.1) (same_Some _ y e) h
 post_formed A s m (IsReceipt r) y good h e = subst (λ (z : Answer × State). IsWellFormed A z.1) (same_Some _ y e) (settle_formed A s m r h)
 post_formed A s m (IsDocument p) y good h e = record_formed A s m p y (document_recorded (IsDocument p) p good refl) h e
@@ -163,8 +164,8 @@ post_formed A s m (IsDocument p) y good h e = record_formed A s m p y (document_
 pub step_formed : (A : Agreements) (s : State) (e : Event) (y : Answer × State) → IsWellFormed A s → step A s e ≡ Some y → IsWellFormed A y.1
 step_formed A s (Post head body m) y h is = post_formed A s m (post_reading A (known_digests s.version) head body) y (reading_good A (known_digests s.version) head body) h is
 step_formed A s (Submit organization partner content m) y h is = submit_formed A s organization partner content m y h is
-step_formed A s (Begin n m) y h is = subst (λ (z : Answer × State). IsWellFormed A z.1) (same_Some _ y is) (acted_formed A s n (begun A m) (document s n) (begun_keeps A m) h)
-step_formed A s (Resend n m) y h is = subst (λ (z : Answer × State). IsWellFormed A z.1) (same_Some _ y is) (acted_formed A s n (resent A m) (document s n) (resent_keeps A m) h)
+step_formed A s (Begin n m) y h is = subst (λ (z : Answer × State). IsWellFormed A z.1) (same_Some _ y is) (acted_formed A s n (begun_document A m) (document s n) (begun_keeps A m) h)
+step_formed A s (Resend n m) y h is = subst (λ (z : Answer × State). IsWellFormed A z.1) (same_Some _ y is) (acted_formed A s n (resent_document A m) (document s n) (resent_keeps A m) h)
 step_formed A s (Outcome n got m) y h is = subst (λ (z : Answer × State). IsWellFormed A z.1) (same_Some _ y is) (acted_formed A s n (closed_document A (known_digests s.version) got m) (document s n) (closed_keeps A (known_digests s.version) got m) h)
 step_formed A s (BeginReceipt n m) y h is = subst (λ (z : Answer × State). IsWellFormed A z.1) (same_Some _ y is) (acted_in_formed A s n (begun_receipt A m) (received_entry s n) (receipt_begun_lasting A m) h)
 step_formed A s (OutcomeReceipt n got m) y h is = subst (λ (z : Answer × State). IsWellFormed A z.1) (same_Some _ y is) (acted_in_formed A s n (closed_receipt A got m) (received_entry s n) (receipt_closed_lasting A got m) h)

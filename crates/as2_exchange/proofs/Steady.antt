@@ -6,11 +6,11 @@ use Rattle.as2_exchange.specs.Agreement.{Text, Agreements, is_organization, part
 use Rattle.as2_exchange.specs.Readings.{named_by}
 use Rattle.as2_exchange.specs.State.{Posted, InEntry, OutEntry, State, Version, LaterVersion, known_digests, end_of_numbers, document, document_named, received_entry, received_as, change_document, is_settled}
 use Rattle.as2_exchange.specs.Events.{Event, Post, Submit, Begin, Outcome, Resend, BeginReceipt, OutcomeReceipt, Tick, Answer, Refused, Submitted, UnknownOrganization, UnknownPartner, TooLarge}
-use Rattle.as2_exchange.specs.Posts.{ReceivedReceipt, Reading, Refuses, IsReceipt, IsDocument, post_reading}
-use Rattle.as2_exchange.specs.Documents.{settled_document, settle, settle_for, submit, new_document, begun, closed_document, resent, tick}
+use Rattle.as2_exchange.specs.Posts.{ReceivedReceipt, PostReading, Refuses, IsReceipt, IsDocument, post_reading}
+use Rattle.as2_exchange.specs.Documents.{settled_document, settle, settle_for, submit, new_document, begun_document, closed_document, resent_document, tick}
 use Rattle.as2_exchange.specs.OwedReceipts.{begun_receipt, closed_receipt}
 use Rattle.as2_exchange.specs.Recording.{record_post}
-use Rattle.as2_exchange.specs.Step.{post, step, act_on, acted_in}
+use Rattle.as2_exchange.specs.Step.{post, step, act_on, act_in}
 use Rattle.as2_exchange.specs.Run.{Trace, Run, AnEvent, AMigration, Answered, Failed, migrated_state, version_after}
 use Rattle.as2_exchange.proofs.Documents.{if_either}
 use Rattle.as2_exchange.proofs.Repeats.{RecordedOrSame, fresh, repeated, clash, left_is}
@@ -25,7 +25,7 @@ acted_steady : (s : State) (n : ℕ) (act : OutEntry → Answer × OutEntry) (o 
 acted_steady s n act None = steady s
 acted_steady s n act (Some d) = (refl, omega arith)
 
-acted_in_steady : (s : State) (n : ℕ) (act : InEntry → Answer × InEntry) (o : Option InEntry) → Steady s (acted_in s n act o).1
+acted_in_steady : (s : State) (n : ℕ) (act : InEntry → Answer × InEntry) (o : Option InEntry) → Steady s (act_in s n act o).1
 acted_in_steady s n act None = steady s
 acted_in_steady s n act (Some e) = (refl, omega arith)
 
@@ -46,7 +46,7 @@ recorded_steady A s m p o y (fresh none small is) = subst (λ (z : Answer × Sta
 recorded_steady A s m p o y (repeated e there same is) = subst (λ (z : Answer × State). Steady s z.1) (sym is) (refl, omega arith)
 recorded_steady A s m p o y (clash e there other is) = subst (Steady s) (sym is) (steady s)
 
-post_steady : (A : Agreements) (s : State) (m : ℕ) (r : Reading) (y : Answer × State) → post A s m r ≡ Some y → Steady s y.1
+post_steady : (A : Agreements) (s : State) (m : ℕ) (r : PostReading) (y : Answer × State) → post A s m r ≡ Some y → Steady s y.1
 unfolding record_post
 post_steady A s m (Refuses line) y h = subst (λ (z : Answer × State). Steady s z.1) (same_Some _ y h) (steady s)
 post_steady A s m (IsReceipt r) y h = subst (λ (z : Answer × State). Steady s z.1) (same_Some _ y h) (settle_steady s m r)
@@ -73,9 +73,9 @@ tick_steady m s = (refl, omega arith)
 pub step_steady : (A : Agreements) (s : State) (e : Event) (y : Answer × State) → step A s e ≡ Some y → Steady s y.1
 step_steady A s (Post head body m) y h = post_steady A s m (post_reading A (known_digests s.version) head body) y h
 step_steady A s (Submit organization partner content m) y h = submit_steady A s organization partner content m y h
-step_steady A s (Begin n m) y h = subst (λ (z : Answer × State). Steady s z.1) (same_Some _ y h) (acted_steady s n (begun A m) (document s n))
+step_steady A s (Begin n m) y h = subst (λ (z : Answer × State). Steady s z.1) (same_Some _ y h) (acted_steady s n (begun_document A m) (document s n))
 step_steady A s (Outcome n got m) y h = subst (λ (z : Answer × State). Steady s z.1) (same_Some _ y h) (acted_steady s n (closed_document A (known_digests s.version) got m) (document s n))
-step_steady A s (Resend n m) y h = subst (λ (z : Answer × State). Steady s z.1) (same_Some _ y h) (acted_steady s n (resent A m) (document s n))
+step_steady A s (Resend n m) y h = subst (λ (z : Answer × State). Steady s z.1) (same_Some _ y h) (acted_steady s n (resent_document A m) (document s n))
 step_steady A s (BeginReceipt n m) y h = subst (λ (z : Answer × State). Steady s z.1) (same_Some _ y h) (acted_in_steady s n (begun_receipt A m) (received_entry s n))
 step_steady A s (OutcomeReceipt n got m) y h = subst (λ (z : Answer × State). Steady s z.1) (same_Some _ y h) (acted_in_steady s n (closed_receipt A got m) (received_entry s n))
 step_steady A s (Tick m) y h = subst (λ (z : Answer × State). Steady s z.1) (same_Some _ y h) (tick_steady m s)

@@ -9,7 +9,7 @@ use Rattle.as2_exchange.specs.Detail.{Detail, New, Sending, Awaiting, Retry, Pro
 use Rattle.as2_exchange.specs.Readings.{ReceiptDelivery, NoReceipt, Sync, Async, document_job, receipt_job as receipt_sent, names_of, type_of, report_in, named_by, value_of}
 use Rattle.as2_exchange.specs.State.{AllDigests, LaterVersion, State, InEntry, OutEntry, Evidence, empty}
 use Rattle.as2_exchange.specs.Events.{Post, Begin, Outcome, Answer, Nothing, NoAnswer, Reply, Job, Settled, Delivered, TryFailed, AlreadySettled, Submitted, Ticked, Refused, UnknownOrganization, UnknownPartner, NoSuchNumber, NotDue, AllSettled, NoOpenTry, TriesUsedUp}
-use Rattle.as2_exchange.specs.Documents.{begun, closed_document, submit, tick}
+use Rattle.as2_exchange.specs.Documents.{begun_document, closed_document, submit, tick}
 use Rattle.as2_exchange.specs.Lines.{http}
 use Rattle.as2_exchange.specs.OwedReceipts.{begun_receipt, closed_receipt}
 use Rattle.as2_exchange.specs.Receipts.{is_success}
@@ -40,7 +40,7 @@ with_document d = record { version = LaterVersion 0; inbox = []; outbox = d ∷ 
 
 -- what a Begin of it at 1000 is answered
 abbrev begin_answer : Agreements → OutEntry → Answer
-begin_answer A d = (begun A 1000 d).0
+begin_answer A d = (begun_document A 1000 d).0
 
 -- a settled one whose tries are used, which waits, and is due later
 abbrev settled_late : OutEntry
@@ -60,13 +60,13 @@ begin_refusals : (begin_answer no_organization settled_late ≡ Refused UnknownO
     × (begin_answer fixture (standing 1 Idle None NoReceiptAsked None) ≡ Refused NotDue)
     × (begin_answer fixture (standing 1 Idle (Some 1001) Retry None) ≡ Refused NotDue)
     × (begin_answer fixture (standing 1 Idle (Some 1000) Retry None) ≡ Job (document_job fixture buyer (codes "Supplier") (codes "<out-1@station.example>") abc))
-unfolding begun
+unfolding begun_document
 begin_refusals = (refl, refl, refl, refl, refl, refl, refl, refl, refl, refl)
 
 -- the first try, and the last one
-begin_opens : ((begun fixture 1000 (standing 0 Idle (Some 1000) New None)).1 ≡ standing 1 Running (Some 1030) Sending None)
-    × ((begun fixture 1000 (standing 1 Running (Some 1000) Sending None)).1 ≡ standing 2 Last (Some 1030) Sending None)
-unfolding begun
+begin_opens : ((begun_document fixture 1000 (standing 0 Idle (Some 1000) New None)).1 ≡ standing 1 Running (Some 1030) Sending None)
+    × ((begun_document fixture 1000 (standing 1 Running (Some 1000) Sending None)).1 ≡ standing 2 Last (Some 1030) Sending None)
+unfolding begun_document
 begin_opens = (refl, refl)
 
 -- what an Outcome without an answer is answered
@@ -115,7 +115,7 @@ foreign_answers = (refl, refl, refl)
 -- a receipt in the Outcome of a try that is closed is none
 late_outcome : play due_1 (empty (LaterVersion 0) 1) (submit_to buyer ∷ Begin 1 1000 ∷ Outcome 1 NoAnswer 1000 ∷ Outcome 1 (Reply 200 (receipt_head (codes "Buyer")) q) 1001 ∷ [])
     ≡ Some (Submitted 1 ∷ job_1 buyer ∷ TryFailed ∷ Refused NoOpenTry ∷ [], Some (Retry, Some 1030))
-unfolding play submit begun closed_document
+unfolding play submit begun_document closed_document
 late_outcome = refl
 
 -- an answer of success without a receipt, by what is agreed with the partner

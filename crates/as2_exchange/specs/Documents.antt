@@ -30,8 +30,8 @@ waits NoReceiptAsked = true
 waits other = false
 
 -- a try of a document begins
-unfoldable pub begun : Agreements → ℕ → OutEntry → Answer × OutEntry
-begun A m d =
+unfoldable pub begun_document : Agreements → ℕ → OutEntry → Answer × OutEntry
+begun_document A m d =
     where_agreed A d.organization d.partner d λ p.
     if is_settled d then (Refused AllSettled, d)
     else if nat_le p.max_tries d.tries then (Refused TriesUsedUp, d)
@@ -87,8 +87,8 @@ abbrev pub queued_anew : ℕ → OutEntry → OutEntry
 queued_anew m d = record d { tries = 0; attempt = Idle; due = Some m; detail = New }
 
 -- a document that failed is to be sent anew
-unfoldable pub resent : Agreements → ℕ → OutEntry → Answer × OutEntry
-resent A m d =
+unfoldable pub resent_document : Agreements → ℕ → OutEntry → Answer × OutEntry
+resent_document A m d =
     where_agreed A d.organization d.partner d λ p.
     if is_settled d then (Refused AllSettled, d)
     else if not (is_error (class_of d.detail)) then (Refused NotDue, d)

@@ -15,7 +15,7 @@ pub use Rattle.as2_exchange.specs.declared.answer.Answer.{Answer}
 pub use Rattle.as2_exchange.specs.declared.answer.Answer.TheVariants.{Http, Submitted, Job, Settled, Delivered, TryFailed, AlreadySettled, Resent, Ticked, Refused}
 
 -- an event that was answered, with its answer, and the version of the store then
-pub record Done : Type 0 where
+pub record AnsweredEvent : Type 0 where
   pub version : Version
   pub event : Event
   pub answer : Answer

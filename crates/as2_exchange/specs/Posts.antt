@@ -16,13 +16,13 @@ pub record ReceivedReceipt : Type 0 where
   pub body : Text
 
 -- what a post is: refused by a line, a receipt, or a document
-pub data Reading : Type 0 where
-  Refuses : Line → Reading
-  IsReceipt : ReceivedReceipt → Reading
-  IsDocument : Posted → Reading
+pub data PostReading : Type 0 where
+  Refuses : Line → PostReading
+  IsReceipt : ReceivedReceipt → PostReading
+  IsDocument : Posted → PostReading
 
 -- goes on with what is there; else the post is refused
-abbrev pub needs : {X : Type 0} → Option X → Line → (X → Reading) → Reading
+abbrev pub needs : {X : Type 0} → Option X → Line → (X → PostReading) → PostReading
 needs None line rest = Refuses line
 needs (Some x) line rest = rest x
 
@@ -46,22 +46,22 @@ abbrev pub received_receipt : Digests → Text × Text → MediaType × Text →
 received_receipt known names type body receipt = record { known = known; from = names.0; to = names.1; receipt = receipt; content_type = type.1; body = body }
 
 -- a post of a report: it needs no identifier and asks for nothing
-abbrev pub report_posted : Digests → Text × Text → MediaType × Text → Text → Reading
+abbrev pub report_posted : Digests → Text × Text → MediaType × Text → Text → PostReading
 report_posted known names type body = needs (report_in type.0 body) UnreadableReceipt λ receipt. IsReceipt (received_receipt known names type body receipt)
 
 -- any other post
-abbrev pub document_posted : Digests → Text × Text → MediaType × Text → Head → Text → Reading
+abbrev pub document_posted : Digests → Text × Text → MediaType × Text → Head → Text → PostReading
 document_posted known names type head body =
     needs (id_of head) BadId λ id.
     needs (ask_of head) BadAsk λ ask.
     IsDocument (posted_document known names id type head body ask)
 
 -- a post whose names, version and content type are in order
-abbrev pub read_further : Digests → Text × Text → MediaType × Text → Head → Text → Reading
+abbrev pub read_further : Digests → Text × Text → MediaType × Text → Head → Text → PostReading
 read_further known names type head body = if is_report type.0 then report_posted known names type body else document_posted known names type head body
 
 -- a post as it is read where these digests are known: the first line of the table of answers that fits
-unfoldable pub post_reading : Agreements → Digests → Head → Text → Reading
+unfoldable pub post_reading : Agreements → Digests → Head → Text → PostReading
 post_reading A known head body =
     needs (names_of head) BadNames λ names.
     if not (version_fits head) then Refuses BadVersion

@@ -5,8 +5,8 @@ use Rattle.as2_exchange.specs.Agreement.{Agreements, Partner, partner_of}
 use Rattle.as2_exchange.specs.Detail.{Attempt, Idle, Running, Last, Used, ReceiptStage, Unasked, Pending, Sent}
 use Rattle.as2_exchange.specs.Readings.{ReceiptDelivery, NoReceipt, Sync, Async}
 use Rattle.as2_exchange.specs.State.{Posted, InEntry, Version, known_digests, origin_of}
-use Rattle.as2_exchange.specs.Events.{Event, Post, BeginReceipt, OutcomeReceipt, Answer, Done}
-use Rattle.as2_exchange.specs.Posts.{Reading, IsDocument, post_reading, repeats}
+use Rattle.as2_exchange.specs.Events.{Event, Post, BeginReceipt, OutcomeReceipt, Answer, AnsweredEvent}
+use Rattle.as2_exchange.specs.Posts.{PostReading, IsDocument, post_reading, repeats}
 use Rattle.as2_exchange.specs.Receipts.{is_delivery}
 use Rattle.as2_exchange.specs.History.{FoundAt, Fact, ATry, AnOutcome, is_job, try_in, tries, is_open, last_of, with_past}
 use Rattle.as2_exchange.specs.Waiting.{TryWithOutcome, last_tried}
@@ -17,7 +17,7 @@ pub data ReceiptFact : Type 0 where
   OfATry : Fact → ReceiptFact
 
 -- a post of the document: the first one, and each repeat
-abbrev pub post_of : Version → ℕ → Posted → ℕ → Reading → Option ReceiptFact
+abbrev pub post_of : Version → ℕ → Posted → ℕ → PostReading → Option ReceiptFact
 post_of v n p m (IsDocument q) = if repeats (origin_of v) n p q then Some (APost m) else None
 post_of v n p m other = None
 
@@ -28,7 +28,7 @@ receipt_fact_of A n p v answer (BeginReceipt k m) = if k == n && is_job answer t
 receipt_fact_of A n p v answer (OutcomeReceipt k got m) = if k == n then Some (OfATry (AnOutcome m (known_digests v) got)) else None
 receipt_fact_of A n p v answer other = None
 
-unfoldable pub receipt_fact : Agreements → ℕ → Posted → Done → Option ReceiptFact
+unfoldable pub receipt_fact : Agreements → ℕ → Posted → AnsweredEvent → Option ReceiptFact
 receipt_fact A n p e = receipt_fact_of A n p e.version e.answer e.event
 
 -- ---- its tries
@@ -111,5 +111,5 @@ history_by_how Sync p since = Some (at_rest Sent)
 history_by_how (Async url) p since = option_map (sent_later p) since
 
 -- What the answered events say of receipt n, which is for this document.
-abbrev pub receipt_history : Agreements → List Done → ℕ → Posted → Option ReceiptHistory
+abbrev pub receipt_history : Agreements → List AnsweredEvent → ℕ → Posted → Option ReceiptHistory
 receipt_history A done n p = option_and_then (λ partner. history_by_how p.how partner (since_queued partner (filter_map (receipt_fact A n p) done))) (partner_of A p.sender)

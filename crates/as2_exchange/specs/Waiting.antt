@@ -5,7 +5,7 @@ use Rattle.std.specs.Option.{option_map_or}
 use Rattle.as2_exchange.specs.Agreement.{Agreements, Partner, Asked, NoReceipt, Sync, Async, partner_of}
 use Rattle.as2_exchange.specs.Detail.{Attempt, Idle, Running, Last}
 use Rattle.as2_exchange.specs.State.{OutEntry}
-use Rattle.as2_exchange.specs.Events.{TryAnswer, Done}
+use Rattle.as2_exchange.specs.Events.{TryAnswer, AnsweredEvent}
 use Rattle.as2_exchange.specs.Posts.{ReceivedReceipt}
 use Rattle.as2_exchange.specs.Receipts.{is_delivery}
 use Rattle.as2_exchange.specs.History.{FoundAt, Submission, Fact, concerns, first_of, last_of, try_in, resend_in, since_resent, outcome_in, tries, first_receipt, is_tick_from}
@@ -71,5 +71,5 @@ waiting_by A k d facts p =
     }
 
 -- What the answered events say of the tries of document k; nothing, where it was not submitted.
-abbrev pub waiting_history : Agreements → List Done → ℕ → Option Schedule
+abbrev pub waiting_history : Agreements → List AnsweredEvent → ℕ → Option Schedule
 waiting_history A done k = option_and_then (λ (c : Submission × List Fact). option_map (waiting_by A k c.0 c.1) (partner_of A c.0.partner)) (concerns A done k)

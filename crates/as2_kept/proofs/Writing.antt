@@ -3,7 +3,7 @@ use Rattle.std.proofs.Common.{◌≡◌, Option, Result, Ok, Err, subst, inl, in
 use Rattle.sqlite.specs.State.{State as Connected, Survives as SurvivesTables}
 use Rattle.as2_exchange.specs.State.{State}
 use Rattle.as2_records.specs.Calls.{Commits, Survives, Writes}
-use Rattle.as2_store.specs.Calls.{CommitsTables as CommitsTables, WritesTables as WritesTables}
+use Rattle.as2_store.specs.Calls.{CommitsTables, WritesTables}
 use Rattle.as2_kept.specs.Instance.{tables_standing, tables}
 
 -- what a stop leaves of tables it leaves of records

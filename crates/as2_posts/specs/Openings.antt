@@ -3,7 +3,7 @@ use Rattle.std.specs.Prelude.{Option, option_map}
 use Rattle.as2_exchange.specs.Agreement.{Text}
 use Rattle.as2_exchange.specs.Versions.{Digests}
 use Rattle.as2_exchange.specs.Readings.{Head, MediaType, Receipt, report_in}
-use Rattle.as2_exchange.specs.Posts.{ReceivedReceipt, Reading, received_receipt, report_posted, document_posted, read_further}
+use Rattle.as2_exchange.specs.Posts.{ReceivedReceipt, PostReading, received_receipt, report_posted, document_posted, read_further}
 use Rattle.as2_posts.specs.declared.opening.Opened.{Opened}
 
 -- the names that a post came under, and its content type
@@ -18,13 +18,13 @@ abbrev pub receipt_by : Digests → Opened → Receipt → Text → ReceivedRece
 receipt_by known opened receipt body = received_receipt known (names_in opened) (opened_type opened) body receipt
 
 -- a post that came so is read as a receipt, or as a document
-abbrev pub report_by : Digests → Opened → Text → Reading
+abbrev pub report_by : Digests → Opened → Text → PostReading
 report_by known opened body = report_posted known (names_in opened) (opened_type opened) body
 
-abbrev pub document_by : Digests → Opened → Head → Text → Reading
+abbrev pub document_by : Digests → Opened → Head → Text → PostReading
 document_by known opened head body = document_posted known (names_in opened) (opened_type opened) head body
 
-abbrev pub reading_by : Digests → Opened → Head → Text → Reading
+abbrev pub reading_by : Digests → Opened → Head → Text → PostReading
 reading_by known opened head body = read_further known (names_in opened) (opened_type opened) head body
 
 -- the receipt that came so, where the body can be read as one

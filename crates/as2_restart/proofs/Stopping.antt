@@ -6,7 +6,7 @@ use Rattle.sqlite.specs.Store.{Ghosts}
 use Rattle.sqlite.specs.Held.{Held, state}
 use Rattle.sqlite.specs.State.{State as Connected, HasCleanDisk}
 use Rattle.as2_exchange.specs.Agreement.{Agreements, Text}
-use Rattle.as2_exchange.specs.Posts.{Reading, Refuses, IsReceipt, IsDocument, post_reading}
+use Rattle.as2_exchange.specs.Posts.{PostReading, Refuses, IsReceipt, IsDocument, post_reading}
 use Rattle.as2_exchange.specs.Run.{EventResult, Answered, Failed, AnEvent, Trace, Run, MayFail}
 use Rattle.as2_exchange.specs.State.{State, Digests, AllDigests, state_digests, known_digests}
 use Rattle.as2_exchange.specs.Step.{post, step}
@@ -38,7 +38,7 @@ some_once a b e = cc
 left_of : (x y : Answer × State) → Some x ≡ Some y → y.1 ≡ x.1
 left_of x y e = sym (ap (λ (p : Answer × State). p.1) (some_once x y e))
 
-unread_post : (A : Agreements) (s t : State) (m : ℕ) (a : Answer) (r : Reading) → takes_store r ≡ false → post A s m r ≡ Some (a, t) → t ≡ s
+unread_post : (A : Agreements) (s t : State) (m : ℕ) (a : Answer) (r : PostReading) → takes_store r ≡ false → post A s m r ≡ Some (a, t) → t ≡ s
 unread_post A s t m a (Refuses line) none is = left_of (Http (refusal line), s) (a, t) is
 unread_post A s t m a (IsReceipt r) none is = absurd cc
 unread_post A s t m a (IsDocument p) none is = absurd cc

@@ -5,7 +5,7 @@ ghost use Rattle.sqlite_value.specs.Value.{owned};
 ghost use Rattle.as2_mdn.specs.declared.detail.Detail.{Detail as DetailOf};
 ghost use Rattle.as2_mdn.specs.declared.outcome.Outcome.{Outcome as OutcomeOf};
 ghost use Rattle.as2_exchange.specs.declared.attempt.Attempt.{Attempt as AttemptOf};
-ghost use Rattle.as2_exchange.specs.declared.inbox.ReceiptStage.{ReceiptStage as ReceiptStage};
+ghost use Rattle.as2_exchange.specs.declared.inbox.ReceiptStage.{ReceiptStage};
 ghost use Rattle.as2_rows.specs.Codes.{outcome_code, how_code, receipt_stage_code, attempt_code, detail_code};
 ghost use Rattle.as2_rows.specs.Rows.{whole};
 

@@ -7,7 +7,7 @@ use Rattle.as2_mdn.specs.Verdicts.{Confirms}
 use Rattle.as2_mdn.specs.declared.detail.DetailClass.TheVariants.{S}
 use Rattle.as2_exchange.specs.Agreement.{Agreements, partner_of}
 use Rattle.as2_exchange.specs.Invariants.{IsCounter, IsWellFormed}
-use Rattle.as2_exchange.specs.Events.{Done}
+use Rattle.as2_exchange.specs.Events.{AnsweredEvent}
 use Rattle.as2_exchange.specs.History.{Fact, FoundAt, Submission, concerns, first_of, first_receipt, submission_of, submission, history_of, history_by}
 use Rattle.as2_exchange.specs.Posts.{ReceivedReceipt}
 use Rattle.as2_exchange.specs.Run.{Answered, Failed, AnEvent, AMigration, Trace, Run, migrated_state, accepted_events}
@@ -47,8 +47,8 @@ run_then A s mid t (AMigration n ∷ one) two a b = (a.0, a.1, run_then A (migra
 -- ---- success
 
 -- a submission is found by both, or by neither
-found_by_both : {X : Type 0} (o : Option (FoundAt Submission Done)) (f : FoundAt Submission Done → X) (x : X) → option_map f o ≡ Some x
-    → option_map (λ (g : FoundAt Submission Done). g.it) o ≡ None → ⊥
+found_by_both : {X : Type 0} (o : Option (FoundAt Submission AnsweredEvent)) (f : FoundAt Submission AnsweredEvent → X) (x : X) → option_map f o ≡ Some x
+    → option_map (λ (g : FoundAt Submission AnsweredEvent). g.it) o ≡ None → ⊥
 found_by_both None f x is none = absurd cc
 found_by_both (Some g) f x is none = absurd cc
 

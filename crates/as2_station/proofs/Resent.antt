@@ -4,7 +4,7 @@ use Rattle.std.specs.Prelude.{if◌then◌else◌}
 use Rattle.std.specs.Option.{option_map_or}
 use Rattle.as2_mdn.specs.Details.{class_of}
 use Rattle.as2_exchange.specs.Agreement.{Agreements, Partner, is_organization, partner_of}
-use Rattle.as2_exchange.specs.Documents.{is_error, resent}
+use Rattle.as2_exchange.specs.Documents.{is_error, resent_document}
 use Rattle.as2_exchange.specs.State.{State, document, change_document, is_settled}
 use Rattle.as2_exchange.specs.Step.{on_document}
 use Rattle.as2_exchange.specs.declared.answer.Answer.{Answer}
@@ -53,18 +53,18 @@ made_by d made true (Some p) false true is = refl
 -- ---- a resend
 
 module _ (A : Agreements) (m : ℕ) (d : OutEntry) where
-  pub not_resent : (reason : Refusal) → resend_refusal A d ≡ Some reason → resent A m d ≡ (Refused reason, d)
-  unfolding resent
+  pub not_resent : (reason : Refusal) → resend_refusal A d ≡ Some reason → resent_document A m d ≡ (Refused reason, d)
+  unfolding resent_document
   not_resent reason is = refused_by d (Resent, queued_anew m d) (is_organization A d.organization) (partner_of A d.partner) (is_settled d) (is_error (class_of d.detail)) reason is
 
-  pub is_resent : resend_refusal A d ≡ None → resent A m d ≡ (Resent, queued_anew m d)
-  unfolding resent
+  pub is_resent : resend_refusal A d ≡ None → resent_document A m d ≡ (Resent, queued_anew m d)
+  unfolding resent_document
   is_resent is = made_by d (Resent, queued_anew m d) (is_organization A d.organization) (partner_of A d.partner) (is_settled d) (is_error (class_of d.detail)) is
 
 -- what is written is what the machine leaves
 pub resends : (A : Agreements) (m : ℕ) (s t : State) (d : OutEntry) → IsCounted s → document s d.number ≡ Some d → resend_refusal A d ≡ None
-    → resent_in d.number m s ≡ Some t → Some (on_document s d.number (resent A m)) ≡ Some (Resent, t)
+    → resent_in d.number m s ≡ Some t → Some (on_document s d.number (resent_document A m)) ≡ Some (Resent, t)
 resends A m s t d stands found fine is =
     let left : Some (change_document s d.number (queued_anew m)) ≡ Some t = ap (option_map (λ _. change_document s d.number (queued_anew m))) (sym found) ∙ is in
     let there : change_document s d.number (queued_anew m) ≡ t = cc in
-    ap Some (changes s d stands found (resent A m) Resent (queued_anew m) (is_resent A m d fine) ∙ ap (λ (x : State). (Resent, x)) there)
+    ap Some (changes s d stands found (resent_document A m) Resent (queued_anew m) (is_resent A m d fine) ∙ ap (λ (x : State). (Resent, x)) there)

@@ -6,7 +6,7 @@ use Rattle.as2_exchange.specs.declared.answer.Refusal.{Refusal}
 use Rattle.as2_exchange.specs.declared.answer.Refusal.TheVariants.{UnknownOrganization, UnknownPartner, TooLarge}
 use Rattle.as2_exchange.specs.declared.event.Event.{Event}
 use Rattle.as2_exchange.specs.declared.event.Event.TheVariants.{Post, Submit}
-use Rattle.as2_exchange.specs.Posts.{post_reading, Reading, Refuses, IsReceipt, IsDocument}
+use Rattle.as2_exchange.specs.Posts.{post_reading, PostReading, Refuses, IsReceipt, IsDocument}
 use Rattle.as2_exchange.specs.Versions.{AllDigests}
 use Rattle.as2_exchange.specs.declared.answer.Line.{Line}
 use Rattle.as2_exchange.specs.declared.answer.Line.TheVariants.{BadNames, BadVersion, UnknownNames, BadType}
@@ -20,7 +20,7 @@ is_of_head BadType = true
 is_of_head other = false
 
 -- it can be read, as a receipt or as a document: the answer is looked for in the records
-abbrev pub takes_store : Reading → Bool
+abbrev pub takes_store : PostReading → Bool
 takes_store (Refuses line) = false
 takes_store (IsReceipt receipt) = true
 takes_store (IsDocument posted) = true

@@ -4,7 +4,7 @@ use Rattle.as2_records.specs.Standing.{Medium, Standing}
 use Rattle.as2_records.specs.Calls.{Survives}
 use Rattle.as2_exchange.specs.Agreement.{Agreements, Text}
 use Rattle.as2_exchange.specs.Readings.{Head}
-use Rattle.as2_exchange.specs.Posts.{Reading, Refuses, IsDocument, post_reading}
+use Rattle.as2_exchange.specs.Posts.{PostReading, Refuses, IsDocument, post_reading}
 use Rattle.as2_exchange.specs.Step.{post, step}
 use Rattle.as2_exchange.specs.declared.event.Event.{Event}
 use Rattle.as2_exchange.specs.declared.event.Event.TheVariants.{Post, Submit}
@@ -65,7 +65,7 @@ abbrev pub IsKeptWhole : Posted → State → Type 0
 IsKeptWhole p s = (e : InEntry) → received_as s p ≡ Some e → has_kept_mic e.posted ≡ true
 
 -- an identifier is told to be another document's only where that one is kept whole
-abbrev pub ClashesWhole : {M : Medium} {A : Type 0} → (A → Answer) → Reading → Standing M → Standing M → Result A StoreFault → Type 0
+abbrev pub ClashesWhole : {M : Medium} {A : Type 0} → (A → Answer) → PostReading → Standing M → Standing M → Result A StoreFault → Type 0
 ClashesWhole told reads old new r = new.IsClean
     → IfOk r (λ a. told a ≡ Http (refusal IdUsedBefore) → (p : Posted) → reads ≡ IsDocument p → (s : State) → old.Rests s → IsKeptWhole p s)
 
@@ -78,7 +78,7 @@ pub record TakesEvent {M : Medium} {A : Type 0} (agreed : Agreements) (event : E
   pub whole : (head : Head) (body : List ℕ) (moment : ℕ) → event ≡ Post head body moment → ClashesWhole told (post_reading agreed AllDigests head body) old new r
 
 -- a call that takes a post that is read so, in each state of which this is given
-abbrev pub TakesPost : {H : Type 0} {M : Medium} → (H → Standing M) → Agreements → ℕ → Reading → (State → Type 0) → H → H → Result HttpAnswer StoreFault → Type 0
+abbrev pub TakesPost : {H : Type 0} {M : Medium} → (H → Standing M) → Agreements → ℕ → PostReading → (State → Type 0) → H → H → Result HttpAnswer StoreFault → Type 0
 TakesPost shows agreed moment reads given old new r = Does (λ s. post agreed s moment reads) given (takes_store reads ≡ true) Http (shows old) (shows new) r
 
 -- a post that its head alone refuses is answered by that line, and nothing else happens

@@ -28,7 +28,7 @@ use Rattle.as2_mdn.specs.Details.{class_of}
 use Rattle.as2_mdn.specs.Verdicts.{Confirms}
 use Rattle.as2_mdn.specs.declared.detail.DetailClass.TheVariants.{S, E}
 use Rattle.as2_exchange.specs.Agreement.{Agreements, Text, partner_of}
-use Rattle.as2_exchange.specs.Events.{Done}
+use Rattle.as2_exchange.specs.Events.{AnsweredEvent}
 use Rattle.as2_exchange.specs.History.{concerns, first_receipt, history, submission_of, submitted_as, history_of}
 use Rattle.as2_exchange.specs.Invariants.{IsCounter, IsWellFormed}
 use Rattle.as2_exchange.specs.Posts.{ReceivedReceipt}
@@ -56,7 +56,7 @@ IsSuccessful s k = IsSomeAnd (document s k) (λ d. class_of d.detail ≡ S)
 
 -- the first receipt for it after its first try says processed without modifier and carries the integrity check of the content sent,
 -- under a digest that was known when it came
-abbrev pub IsConfirmed : Agreements → List Done → ℕ → Type 0
+abbrev pub IsConfirmed : Agreements → List AnsweredEvent → ℕ → Type 0
 IsConfirmed A done k = IsSomeAnd (concerns A done k) (λ it. IsSomeAnd (first_receipt A k it.0 it.1) (λ r. Confirms r.1.known r.1.receipt it.0.content))
 
 -- the document stands as it stood, by its detail and its evidence

@@ -1,6 +1,6 @@
 //! Documents that failed, and are to be sent anew.
 ghost use Rattle.std.specs.Prelude.{◌≡◌, Some, IsTrue, true};
-ghost use Rattle.as2_exchange.specs.Documents.{resent};
+ghost use Rattle.as2_exchange.specs.Documents.{resent_document};
 ghost use Rattle.as2_exchange.specs.State.{document};
 ghost use Rattle.as2_exchange.specs.Step.{on_document};
 ghost use Rattle.as2_station.specs.Resending.{resend_refusal};
@@ -43,7 +43,7 @@ fn resend_found<R: Records>(
     moment: Moment,
 ) -> Result<Resent, StoreFault>
     requires open { (R.shows records.old).IsClean → IsTrue (R.shows records.old).is_open }
-    ensures taken { Does (λ s. Some (on_document s entry.now.number (resent agreements.now moment)))
+    ensures taken { Does (λ s. Some (on_document s entry.now.number (resent_document agreements.now moment)))
         (λ s. document s entry.now.number ≡ Some entry.now) (true
         ≡ true) said_to_resend (R.shows records.old) (R.shows records.new) result }
 {
@@ -62,7 +62,7 @@ pub fn resend<R: Records>(
     number: u64,
     moment: Moment,
 ) -> Result<Resent, StoreFault>
-    ensures taken { Does (λ s. Some (on_document s number (resent agreements.now moment))) always (true
+    ensures taken { Does (λ s. Some (on_document s number (resent_document agreements.now moment))) always (true
         ≡ true) said_to_resend (R.shows records.old) (R.shows records.new) result }
 {
     match records.find_out(alloc, number)? {

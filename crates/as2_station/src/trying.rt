@@ -1,7 +1,7 @@
 //! Tries of documents: each is committed before its request is handed out.
 ghost use Rattle.std.specs.Prelude.{◌≡◌, ◌<◌, ℕ, Some, IsTrue, true};
 ghost use Rattle.as2_agreement.specs.Partners.{IsPartner};
-ghost use Rattle.as2_exchange.specs.Documents.{begun, waits};
+ghost use Rattle.as2_exchange.specs.Documents.{begun_document, waits};
 ghost use Rattle.as2_exchange.specs.State.{document};
 ghost use Rattle.as2_exchange.specs.Step.{on_document};
 ghost use Rattle.as2_exchange.specs.Tries.{is_early};
@@ -84,7 +84,7 @@ fn begin_found<R: Records>(
     moment: Moment,
 ) -> Result<Begun, StoreFault>
     requires open { (R.shows records.old).IsClean → IsTrue (R.shows records.old).is_open }
-    ensures taken { Does (λ s. Some (on_document s entry.now.number (begun agreements.now moment)))
+    ensures taken { Does (λ s. Some (on_document s entry.now.number (begun_document agreements.now moment)))
         (λ s. document s entry.now.number ≡ Some entry.now) (true
         ≡ true) said_to_begin (R.shows records.old) (R.shows records.new) result }
 {
@@ -116,7 +116,7 @@ pub fn begin<R: Records>(
     number: u64,
     moment: Moment,
 ) -> Result<Begun, StoreFault>
-    ensures taken { Does (λ s. Some (on_document s number (begun agreements.now moment))) always (true
+    ensures taken { Does (λ s. Some (on_document s number (begun_document agreements.now moment))) always (true
         ≡ true) said_to_begin (R.shows records.old) (R.shows records.new) result }
 {
     match records.find_out(alloc, number)? {

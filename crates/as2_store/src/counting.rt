@@ -7,7 +7,7 @@ ghost use Rattle.as2_exchange.specs.State.{State};
 ghost use Rattle.as2_exchange.specs.Progress.{same_state};
 ghost use Rattle.as2_mdn.specs.Details.{class_of};
 ghost use Rattle.as2_mdn.specs.declared.detail.Detail.{Detail as DetailOf};
-ghost use Rattle.as2_exchange.specs.declared.inbox.ReceiptStage.{ReceiptStage as ReceiptStage};
+ghost use Rattle.as2_exchange.specs.declared.inbox.ReceiptStage.{ReceiptStage};
 ghost use Rattle.as2_store.specs.Calls.{ReadsTables};
 ghost use Rattle.as2_store.specs.Counting.{detail_row, details_of, is_awaiting, is_unsent, receipt_stage_row, receipt_stages_of};
 ghost use Rattle.as2_records.specs.Standing.{may_come};

@@ -2,7 +2,7 @@ use Rattle.std.proofs.Common.{◌≡◌, true, Some, sym, subst}
 use Rattle.as2_exchange.specs.declared.event.Event.TheVariants as event
 use Rattle.as2_station.proofs.ByHistory.{takes_event}
 use Rattle.as2_station.specs.Steps.{Does, TakesEvent, always}
-use Rattle.as2_exchange.specs.Documents.{begun}
+use Rattle.as2_exchange.specs.Documents.{begun_document}
 use Rattle.as2_exchange.specs.OwedReceipts.{begun_receipt}
 use Rattle.as2_exchange.specs.Step.{on_document, on_received}
 use Rattle.as2_exchange.specs.declared.next.Next.{Next}
@@ -32,7 +32,7 @@ returns-in-Document g c = record {
       let new = g.R.Records.shows c.begin.new.records in
       subst (λ (w : Next). TakesEvent A (begin_event w m) said_to_begin (g.R.Records.shows c.args.self.now) new c.begin.result) (sym c.in-Document.is)
       (takes_event A (event.Begin n m) said_to_begin _ new c.begin.result
-      (subst (λ (h : g.row.R.Denot). Does (λ s. Some (on_document s n (begun A m))) always (true ≡ true) said_to_begin (g.R.Records.shows h) new c.begin.result) c.self.view_is c.begin.ensures.taken)
+      (subst (λ (h : g.row.R.Denot). Does (λ s. Some (on_document s n (begun_document A m))) always (true ≡ true) said_to_begin (g.R.Records.shows h) new c.begin.result) c.self.view_is c.begin.ensures.taken)
       (g.met.R.Records.rests_last c.begin.new.records)
       (λ head body moment is. absurd (let other = is in cc)));
 }
