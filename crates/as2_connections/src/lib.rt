@@ -1,4 +1,4 @@
-//! Connections over TCP: those that are served, and those to partners.
+//! The program's network and terminal: connections over TCP that are served, links to partners, the clock, and how far a long look has come.
 #![tactic(auto)]
 
 mod links;
@@ -8,5 +8,5 @@ mod served;
 mod wall_clock;
 
 pub use network::Sockets;
-pub use progress::Progress;
+pub use progress::ProgressLine;
 pub use wall_clock::clock;

@@ -20,7 +20,7 @@ use std::sync::ledger::{Blank, Ledger};
 
 /// What opens connections to partners.
 #[derive(Clone, Copy)]
-pub struct Connections<'a> {
+pub struct PartnerLinks<'a> {
     rt: &'a HostRuntime,
     waits: Waits,
     fault: LinkFault,
@@ -28,18 +28,18 @@ pub struct Connections<'a> {
 
 /// A reader or writer, and what kind of error it told last.
 #[derive(Drop)]
-struct Noted<T> {
+struct LastError<T> {
     inner: T,
     last: Option<ErrorKind>,
 }
 
-impl<T> Noted<T> {
-    fn new(inner: T) -> Noted<T> {
-        Noted { inner, last: None }
+impl<T> LastError<T> {
+    fn new(inner: T) -> LastError<T> {
+        LastError { inner, last: None }
     }
 }
 
-impl<T: Read> Read for Noted<T> {
+impl<T: Read> Read for LastError<T> {
     ghost remaining = { λ n. T.remaining n.inner };
 
     fn read(&mut self, buf: &mut [u8]) -> io::Result<usize> {
@@ -53,7 +53,7 @@ impl<T: Read> Read for Noted<T> {
     }
 }
 
-impl<T: Write> Write for Noted<T> {
+impl<T: Write> Write for LastError<T> {
     ghost contents = { λ n. T.contents n.inner };
 
     fn write(&mut self, buf: &[u8]) -> io::Result<usize> {
@@ -73,7 +73,7 @@ impl<T: Write> Write for Noted<T> {
 
 /// What an exchange over a reader and a writer came to.
 #[derive(Drop)]
-struct Exchanged<R, W> {
+struct ExchangeEnd<R, W> {
     got: TryAnswer,
     reader: R,
     writer: W,
@@ -89,7 +89,7 @@ fn exchange_counted<R: Read, W: Write, A: Ledger, B: Ledger, C: Ledger, D: Ledge
     failed_reads: Blank,
     writes: Blank,
     failed_writes: Blank,
-) -> Exchanged<R, W>
+) -> ExchangeEnd<R, W>
     requires reads { OpensLedger reads.name reads.parts A.name A.parts }
     requires failed_reads { OpensLedger failed_reads.name failed_reads.parts B.name B.parts }
     requires writes { OpensLedger writes.name writes.parts C.name C.parts }
@@ -102,7 +102,7 @@ fn exchange_counted<R: Read, W: Write, A: Ledger, B: Ledger, C: Ledger, D: Ledge
     let mut source: Counted<R, A, B> = Counted::new(reader, reads, failed_reads);
     let mut sink: Counted<W, C, D> = Counted::new(writer, writes, failed_writes);
     let got = exchange(alloc, job, &mut source, &mut sink);
-    Exchanged {
+    ExchangeEnd {
         got,
         reader: source.into_inner(),
         writer: sink.into_inner(),
@@ -110,7 +110,7 @@ fn exchange_counted<R: Read, W: Write, A: Ledger, B: Ledger, C: Ledger, D: Ledge
 }
 
 /// Why no connection came about.
-fn unconnected(error: io::Error) -> LinkFault {
+fn connect_fault(error: io::Error) -> LinkFault {
     match error.kind() {
         ErrorKind::ConnectionRefused => LinkFault::ConnectionRefused,
         ErrorKind::NotFound | ErrorKind::InvalidInput => LinkFault::UnknownHost,
@@ -119,7 +119,7 @@ fn unconnected(error: io::Error) -> LinkFault {
 }
 
 /// Why a connection brought no answer, by the kind of the error that was told last.
-fn unanswered(last: Option<ErrorKind>, waits: Waits) -> LinkFault
+fn link_fault(last: Option<ErrorKind>, waits: Waits) -> LinkFault
     ensures { result ≡ link_fault last waits.seconds }
 {
     match last {
@@ -130,12 +130,12 @@ fn unanswered(last: Option<ErrorKind>, waits: Waits) -> LinkFault
     }
 }
 
-impl<'a> Connections<'a> {
+impl<'a> PartnerLinks<'a> {
     /// Links whose peers are waited for so long.
-    pub fn new(rt: &'a HostRuntime, waits: Waits) -> Connections<'a>
+    pub fn new(rt: &'a HostRuntime, waits: Waits) -> PartnerLinks<'a>
         ensures { result.waits ≡ waits }
     {
-        Connections {
+        PartnerLinks {
             rt,
             waits,
             fault: LinkFault::NoAnswer,
@@ -153,7 +153,7 @@ impl<'a> Connections<'a> {
         let limits = Limits::of_seconds(self.waits.seconds);
         let reader = match connect(self.rt, authority, limits) {
             Ok(reader) => reader,
-            Err(error) => return Err(unconnected(error)),
+            Err(error) => return Err(connect_fault(error)),
         };
         match reader.try_clone() {
             Ok(writer) => Ok((reader, writer)),
@@ -162,7 +162,7 @@ impl<'a> Connections<'a> {
     }
 }
 
-impl Links for Connections<'_> {
+impl Links for PartnerLinks<'_> {
     ghost use Rattle.std.specs.Prelude.{◌≡◌};
 
     ghost answers = { λ old _ _ new. new.waits ≡ old.waits };
@@ -176,8 +176,8 @@ impl Links for Connections<'_> {
             }
         };
         let exchanged = exchange_counted::<
-            Noted<Stream>,
-            Noted<Stream>,
+            LastError<Stream>,
+            LastError<Stream>,
             Brand,
             Brand,
             Brand,
@@ -185,15 +185,15 @@ impl Links for Connections<'_> {
         >(
             alloc,
             job,
-            Noted::new(reader),
-            Noted::new(writer),
+            LastError::new(reader),
+            LastError::new(writer),
             Blank::new(1),
             Blank::new(1),
             Blank::new(1),
             Blank::new(1),
         );
         let last = exchanged.writer.last.or(exchanged.reader.last);
-        self.fault = unanswered(last, self.waits);
+        self.fault = link_fault(last, self.waits);
         exchanged.got
     }
 

@@ -6,7 +6,7 @@ ghost use Rattle.as2_http.specs.StreamReads.{RunsPosts};
 ghost use Rattle.as2_exchange.specs.State.{State};
 ghost use Rattle.as2_connections.specs.Inputs.{ServesInput};
 
-use crate::links::Connections;
+use crate::links::PartnerLinks;
 use crate::served::{Replies, Requests};
 use crate::wall_clock::clock;
 use as2_agreement::Agreements;
@@ -47,7 +47,7 @@ pub struct ListeningSocket<'a> {
 
 /// A connection that was accepted: its two ends, and the longest wait for another request.
 #[derive(Drop)]
-struct Accepted<'a> {
+struct ServedEnds<'a> {
     reader: Stream<'a>,
     writer: Stream<'a>,
     idle: Duration,
@@ -108,7 +108,7 @@ fn serve_connection<K: Records, J: Journal>(
     agreements: &Agreements,
     moment: Moment,
     station: &mut Station<K>,
-    accepted: Accepted<'_>,
+    accepted: ServedEnds<'_>,
     journal: &mut J,
 ) -> Served
     ensures clean { (K.shows station.new).IsClean → (K.shows station.old).IsClean }
@@ -147,7 +147,7 @@ fn serve_connection<K: Records, J: Journal>(
 
 impl<'a> ListeningSocket<'a> {
     /// Accepts one connection: its two ends, each with the limits of the socket, and how long another request is waited for.
-    fn accept(&self) -> io::Result<Accepted<'a>>
+    fn accept(&self) -> io::Result<ServedEnds<'a>>
         ensures limits { IfOk result (λ it. (it.reader.timer.limits ≡ self.now.limits)
             × (it.writer.timer.limits ≡ self.now.limits)) }
         ensures idle { IfOk result (λ it. it.idle ≡ self.now.idle) }
@@ -155,7 +155,7 @@ impl<'a> ListeningSocket<'a> {
         let (stream, _) = self.socket.accept()?;
         let reader = TimedStream::new(stream, self.rt, self.limits)?;
         let writer = reader.try_clone()?;
-        Ok(Accepted {
+        Ok(ServedEnds {
             reader,
             writer,
             idle: self.idle,
@@ -207,7 +207,7 @@ impl<'a> Network for Sockets<'a> {
 
     type Listener = ListeningSocket<'a>;
 
-    type Links = Connections<'a>;
+    type Links = PartnerLinks<'a>;
 
     ghost listens = { λ old _ waits l new. HasWaits waits.seconds l.limits × IsWait waits.idle l.idle × (new ≡ old) };
 
@@ -240,12 +240,12 @@ impl<'a> Network for Sockets<'a> {
         })
     }
 
-    fn links(&mut self, waits: Waits) -> Connections<'a> {
-        Connections::new(self.rt, waits)
+    fn links(&mut self, waits: Waits) -> PartnerLinks<'a> {
+        PartnerLinks::new(self.rt, waits)
     }
 
     // no connection outlives its exchange
-    fn close(&mut self, _links: Connections<'a>) {}
+    fn close(&mut self, _links: PartnerLinks<'a>) {}
 
     // the socket is closed
     fn stop(&mut self, listener: ListeningSocket<'a>) {

@@ -7,7 +7,7 @@ use std::io::{IsTerminal, Write};
 /// Says on standard error how far a look through the records has come, where that is a terminal: once a second at most, in one line for
 /// each box. A look that takes less than a second says nothing.
 #[derive(Drop)]
-pub struct Progress<'a> {
+pub struct ProgressLine<'a> {
     rt: &'a HostRuntime,
     /// Standard error is a terminal.
     is_shown: bool,
@@ -17,10 +17,10 @@ pub struct Progress<'a> {
     is_open: bool,
 }
 
-impl<'a> Progress<'a> {
+impl<'a> ProgressLine<'a> {
     /// A look that hasn't begun.
-    pub fn new(rt: &'a HostRuntime) -> Progress<'a> {
-        Progress {
+    pub fn new(rt: &'a HostRuntime) -> ProgressLine<'a> {
+        ProgressLine {
             rt,
             is_shown: rt.stderr().is_terminal(),
             second: None,
@@ -49,7 +49,7 @@ impl<'a> Progress<'a> {
     }
 }
 
-impl Watch for Progress<'_> {
+impl Watch for ProgressLine<'_> {
     fn looked_at(&mut self, mailbox: Mailbox, entries: u64, all: u64) {
         if !self.is_shown {
             return;

@@ -3,7 +3,7 @@ use Rattle.std.specs.Prelude.{◌≡◌, ◌⊎◌, ℕ, List, ◌++◌, Option,
 use Rattle.std.specs.List.{flat_map}
 use Rattle.as2_agreement.specs.Agreements.{AgreedValues}
 use Rattle.as2_commands.specs.Requests.{GivenEvidence}
-use Rattle.as2_evidence.specs.Evidence.{IsEvidence}
+use Rattle.as2_evidence.specs.Evidence.{AreEvidenceFiles}
 use Rattle.as2_evidence.specs.Files.{File}
 use Rattle.as2_exchange.specs.State.{State}
 use Rattle.as2_exchange.specs.declared.answer.Refusal.TheVariants.{NoSuchNumber}
@@ -59,7 +59,7 @@ MakesEvidenceRead folder (Err fault) filing output errors ran = filing.Untouched
 
 -- what came is what the state has of that document
 abbrev pub IsEvidenceAsked : AgreedValues → State → GivenEvidence → EvidenceRead → Type 0
-IsEvidenceAsked agreements s wanted (Ok files) = IsEvidence agreements s wanted.mailbox wanted.number files
+IsEvidenceAsked agreements s wanted (Ok files) = AreEvidenceFiles agreements s wanted.mailbox wanted.number files
 IsEvidenceAsked agreements s wanted (Err fault) = ⊤
 
 -- where the state is known that the records stood for, they stand for it still, and the files are of it

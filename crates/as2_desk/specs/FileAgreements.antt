@@ -11,22 +11,22 @@ use Rattle.as2_desk.specs.declared.refusal.CommandFault.TheVariants as refusal
 abbrev pub AgreementsResult : Type 0
 AgreementsResult = Result AgreedValues CommandFault
 
--- memory was wanting to read the agreements
-abbrev pub IsWant : AgreementsResult → Type 0
-IsWant opened = opened ≡ Err (refusal.Agreements fault.Memory)
+-- memory ran out as the agreements were read
+abbrev pub IsOutOfMemory : AgreementsResult → Type 0
+IsOutOfMemory reading = reading ≡ Err (refusal.Agreements fault.Memory)
 
--- the bytes are a text that has the agreements, or that fault first; bytes that are no text are no TOML
-abbrev pub BytesHave : List ℕ → AgreementsResult → Type 0
-BytesHave bytes (Ok agreements) = IsUtf8 bytes × (agreements_reading bytes ≡ Ok agreements)
-BytesHave bytes (Err (refusal.Agreements e)) = (IsUtf8 bytes × (agreements_reading bytes ≡ Err e)) ⊎ (¬ IsUtf8 bytes × (e ≡ fault.NotToml))
-BytesHave bytes (Err e) = ⊥
+-- the bytes are a text that has the agreements, or that fault first; bytes that are no text are no TOML; no other refusal comes of bytes
+abbrev pub AreReadAs : List ℕ → AgreementsResult → Type 0
+AreReadAs bytes (Ok agreements) = IsUtf8 bytes × (agreements_reading bytes ≡ Ok agreements)
+AreReadAs bytes (Err (refusal.Agreements e)) = (IsUtf8 bytes × (agreements_reading bytes ≡ Err e)) ⊎ (¬ IsUtf8 bytes × (e ≡ fault.NotToml))
+AreReadAs bytes (Err other) = ⊥
 
--- the same, but memory may be wanting in place of any answer
-abbrev pub BytesGive : List ℕ → AgreementsResult → Type 0
-BytesGive bytes opened = BytesHave bytes opened ⊎ IsWant opened
+-- the same, or memory ran out in place of any answer
+abbrev pub AreReadAsOrMemory : List ℕ → AgreementsResult → Type 0
+AreReadAsOrMemory bytes reading = AreReadAs bytes reading ⊎ IsOutOfMemory reading
 
 -- what the file that stands under a path comes to, as far as that is told
-abbrev pub FileComesTo : Content → AgreementsResult → Type 0
-FileComesTo untold opened = ⊤
-FileComesTo unreadable opened = opened ≡ Err refusal.CannotRead
-FileComesTo (file bytes) opened = BytesGive bytes opened
+abbrev pub HasAgreements : Content → AgreementsResult → Type 0
+HasAgreements untold reading = ⊤
+HasAgreements unreadable reading = reading ≡ Err refusal.CannotRead
+HasAgreements (file bytes) reading = AreReadAsOrMemory bytes reading

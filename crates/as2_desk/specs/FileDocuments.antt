@@ -5,11 +5,11 @@ use Rattle.as2_desk.specs.declared.refusal.CommandFault.{CommandFault}
 use Rattle.as2_desk.specs.declared.refusal.CommandFault.TheVariants.{CannotRead, Memory}
 
 -- a document, or the refusal that stands in its place
-abbrev pub Document : Type 0
-Document = Result (List ℕ) CommandFault
+abbrev pub DocumentResult : Type 0
+DocumentResult = Result (List ℕ) CommandFault
 
 -- what is read of a file is its document; it can't be read; or memory was wanting
-abbrev pub HasDocument : Content → Document → Type 0
+abbrev pub HasDocument : Content → DocumentResult → Type 0
 HasDocument untold document = ⊤
 HasDocument unreadable document = document ≡ Err CannotRead
 HasDocument (file bytes) (Ok content) = content ≡ bytes

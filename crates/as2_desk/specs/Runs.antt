@@ -5,7 +5,7 @@ use Rattle.as2_exchange.specs.State.{State}
 use Rattle.as2_host.specs.FileContents.{Content}
 use Rattle.as2_desk.specs.Checks.{counts_line, warnings}
 use Rattle.as2_desk.specs.Endings.{Ends, EndsRefused, Fails}
-use Rattle.as2_desk.specs.FileAgreements.{AgreementsResult, FileComesTo}
+use Rattle.as2_desk.specs.FileAgreements.{AgreementsResult, HasAgreements}
 use Rattle.as2_desk.specs.Migrating.{DoesMigration}
 use Rattle.as2_desk.specs.Observed.{Observation, StoresSeen}
 use Rattle.as2_desk.specs.Statuses.{status_done}
@@ -52,7 +52,7 @@ DoesTask contents (Ok agreements) (Run options command) o stored ran = (begun : 
 -- the file of that path comes to agreements or to a refusal, and the task to what follows from them
 pub record Runs (contents : List ℕ → Content) (path : List ℕ) (task : Task) (o : Observation) (stored : StoresSeen) (ran : Ran) : Type 0 where
   pub opened : AgreementsResult
-  pub opens : FileComesTo (contents path) opened
+  pub opens : HasAgreements (contents path) opened
   pub comes : DoesTask contents opened task o stored ran
 
 -- the task is to send

@@ -5,7 +5,7 @@ use Rattle.as2_exchange.specs.State.{State, content_limit}
 use Rattle.as2_station.specs.declared.said.NewDocument.{NewDocument}
 use Rattle.as2_desk.specs.Connections.{ServesCount}
 use Rattle.as2_host.specs.FileContents.{Content, front}
-use Rattle.as2_desk.specs.FileDocuments.{Document, HasDocument}
+use Rattle.as2_desk.specs.FileDocuments.{DocumentResult, HasDocument}
 use Rattle.as2_desk.specs.Observed.{Observation}
 use Rattle.as2_desk.specs.Posting.{Posts}
 use Rattle.as2_desk.specs.Evidence.{GathersEvidence}
@@ -36,13 +36,13 @@ asked_of (Ok document) = Ok (question.Submit document)
 asked_of (Err refusal) = Err refusal
 
 -- a document in hand is handed in
-abbrev pub hand_in : GivenSubmission → Document → Result QuestionInHand CommandFault
+abbrev pub hand_in : GivenSubmission → DocumentResult → Result QuestionInHand CommandFault
 hand_in s (Ok content) = Ok (question.Submit (record { organization = s.from; partner = s.to; content = content }))
 hand_in s (Err refusal) = Err refusal
 
 -- what is asked once the file of a submission is read; of it one byte more is read than a content may have
 abbrev pub IsAsked : (List ℕ → Content) → Question GivenSubmission → Result QuestionInHand CommandFault → Type 0
-IsAsked contents (question.Submit s) asked = (document : Document) × HasDocument (front (content_limit + 1) (contents s.path)) document × (asked ≡ hand_in s document)
+IsAsked contents (question.Submit s) asked = (document : DocumentResult) × HasDocument (front (content_limit + 1) (contents s.path)) document × (asked ≡ hand_in s document)
 IsAsked contents question.Tick asked = asked ≡ Ok question.Tick
 IsAsked contents (question.Resend n) asked = asked ≡ Ok (question.Resend n)
 IsAsked contents (question.List filter idle format) asked = asked ≡ Ok (question.List filter idle format)

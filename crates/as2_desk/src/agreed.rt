@@ -1,6 +1,6 @@
 //! The agreements of a file.
 ghost use Rattle.std.specs.Prelude.{◌≡◌};
-ghost use Rattle.as2_desk.specs.FileAgreements.{BytesGive, FileComesTo};
+ghost use Rattle.as2_desk.specs.FileAgreements.{AreReadAsOrMemory, HasAgreements};
 
 use crate::refusal::CommandFault;
 use as2_agreement::{AgreementFault, Agreements, Place, Unknown};
@@ -9,7 +9,7 @@ use std::alloc::Global;
 
 /// The agreements of a file's bytes.
 fn agreements_of(alloc: Global, bytes: &[u8]) -> Result<Agreements, CommandFault>
-    ensures { BytesGive bytes.now result }
+    ensures { AreReadAsOrMemory bytes.now result }
 {
     let Ok(text) = std::str::from_utf8(bytes) else {
         return Err(CommandFault::Agreements(AgreementFault::NotToml));
@@ -59,7 +59,7 @@ fn agreed_in(
     bytes: &[u8],
     is_checked: bool,
 ) -> (Result<Agreements, CommandFault>, Noticed)
-    ensures { BytesGive bytes.now result.0 }
+    ensures { AreReadAsOrMemory bytes.now result.0 }
 {
     let agreed = agreements_of(alloc, bytes);
     let noticed = noticed_in_bytes(alloc, bytes, agreed.is_err(), is_checked);
@@ -73,7 +73,7 @@ pub(crate) fn agreements_in<F: ReadFiles>(
     path: &str,
     is_checked: bool,
 ) -> (Result<Agreements, CommandFault>, Noticed)
-    ensures { FileComesTo (F.content files.now path.now) result.0 }
+    ensures { HasAgreements (F.content files.now path.now) result.0 }
 {
     let fault = match files.read_file(alloc, path) {
         Ok(bytes) => return agreed_in(alloc, &bytes, is_checked),

@@ -11,7 +11,7 @@ ghost use Rattle.as2_desk.specs.Statuses.{status_done, status_failed, status_ref
 ghost use Rattle.as2_desk.specs.Stops.{StopsAtFault};
 ghost use Rattle.as2_desk.specs.Stores.{Leaves};
 ghost use Rattle.as2_host.specs.FileContents.{front};
-ghost use Rattle.as2_desk.specs.FileDocuments.{Document, HasDocument};
+ghost use Rattle.as2_desk.specs.FileDocuments.{DocumentResult, HasDocument};
 ghost use Rattle.as2_desk.specs.Works.{CarriesOut, DoesWork, IsAsked, IsWork, IsSendCommand, SendsWork, ServesIt, ServesWork, asked_of, hand_in};
 ghost use Rattle.as2_desk.specs.declared.refusal.CommandFault.TheVariants.{Store as Failing};
 
@@ -54,7 +54,7 @@ fn handed<F: ReadFiles>(
     files: &F,
     submission: Submission<'_>,
 ) -> Result<NewDocument, CommandFault>
-    ensures { (document : Document)
+    ensures { (document : DocumentResult)
         × HasDocument (front (content_limit + 1) (F.content files.now submission.entry.path)) document
         × (asked_of result ≡ hand_in submission.entry document) }
 {

@@ -54,14 +54,14 @@ pub record AreSentFiles (migrated : Bool) (d : OutEntry) (files : List File) : T
 -- ---- a document that was received
 
 -- the receipt that was given, as these agreements have it
-abbrev pub given_receipt : AgreedValues → InEntry → ReceiptStage → Option Text
-given_receipt agreements e Sent = Some (receipt_bytes (receipt_out agreements e.number e.posted))
-given_receipt agreements e other = None
+abbrev pub own_receipt : AgreedValues → InEntry → ReceiptStage → Option Text
+own_receipt agreements e Sent = Some (receipt_bytes (receipt_out agreements e.number e.posted))
+own_receipt agreements e other = None
 
 -- its content, the receipt that was given and the page
 abbrev pub received_files : AgreedValues → InEntry → Text → List File
 received_files agreements e came =
-    files_named (stem Inbox e.number) e.posted.content (given_receipt agreements e e.receipt_stage) (received_page e came)
+    files_named (stem Inbox e.number) e.posted.content (own_receipt agreements e e.receipt_stage) (received_page e came)
 
 -- the files are those, with the date of its moment
 pub record AreReceivedFiles (agreements : AgreedValues) (e : InEntry) (files : List File) : Type 0 where
@@ -77,6 +77,6 @@ AreFilesWhere Are None files = files ≡ None
 AreFilesWhere Are (Some a) files = IsSomeAnd files (Are a)
 
 -- the files of the document of that number, where there is one
-abbrev pub IsEvidence : AgreedValues → State → Mailbox → ℕ → Option (List File) → Type 0
-IsEvidence agreements s Inbox number files = AreFilesWhere (AreReceivedFiles agreements) (received_entry s number) files
-IsEvidence agreements s Outbox number files = AreFilesWhere (AreSentFiles (is_migrated s)) (document s number) files
+abbrev pub AreEvidenceFiles : AgreedValues → State → Mailbox → ℕ → Option (List File) → Type 0
+AreEvidenceFiles agreements s Inbox number files = AreFilesWhere (AreReceivedFiles agreements) (received_entry s number) files
+AreEvidenceFiles agreements s Outbox number files = AreFilesWhere (AreSentFiles (is_migrated s)) (document s number) files

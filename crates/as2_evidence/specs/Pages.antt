@@ -19,7 +19,7 @@ use Rattle.as2_names.specs.Names.{name_spelling}
 use Rattle.as2_views.specs.Layout.{named_line}
 use Rattle.as2_views.specs.Pieces.{size_text}
 use Rattle.as2_views.specs.Texts.{shown_words}
-use Rattle.as2_evidence.specs.Words.{detail_words, disposition_words, given_words, kept_words, receipt_stage_words, shown_text}
+use Rattle.as2_evidence.specs.Words.{detail_words, disposition_words, read_mic_words, own_mic_words, receipt_stage_words, printing_text}
 
 -- ---- both
 
@@ -67,9 +67,9 @@ fields_command stem =
 abbrev pub said_lines : Option Receipt → Text
 said_lines None = named_line (codes "says") (codes "it can't be read")
 said_lines (Some r) =
-    named_line (codes "document") (shown_text r.original_id)
-    ++ named_line (codes "says") (shown_text (disposition_words r.disposition))
-    ++ named_line (codes "MIC") (shown_text (given_words r.mic))
+    named_line (codes "document") (printing_text r.original_id)
+    ++ named_line (codes "says") (printing_text (disposition_words r.disposition))
+    ++ named_line (codes "MIC") (printing_text (read_mic_words r.mic))
 
 unfoldable pub receipt_heading : Text
 receipt_heading = codes "\nThe receipt that settled it (RFC 8098); it isn't signed:\n"
@@ -79,7 +79,7 @@ unfoldable pub receipt_lines : Text → Text → Option Evidence → Text
 receipt_lines stem came None = codes ""
 receipt_lines stem came (Some e) =
     receipt_heading
-    ++ (named_line (codes "came") came ++ named_line (codes "type") (shown_text e.content_type))
+    ++ (named_line (codes "came") came ++ named_line (codes "type") (printing_text e.content_type))
     ++ (said_lines (kept_receipt e) ++ fields_command stem)
 
 unfoldable pub sent_title : Text
@@ -110,7 +110,7 @@ received_names e =
 -- .. what it is and how long, and the integrity checks of its content
 unfoldable pub received_content : InEntry → Text
 received_content e =
-    named_line (codes "type") (shown_text e.posted.content_type)
+    named_line (codes "type") (printing_text e.posted.content_type)
     ++ named_line (codes "content") (size_text (length e.posted.content))
     ++ check_lines e.posted.content
 
@@ -119,7 +119,7 @@ unfoldable pub outcome_lines : InEntry → Text
 outcome_lines e =
     named_line (codes "receipt") (receipt_stage_words e.posted.how e.receipt_stage)
     ++ named_line (codes "outcome") (outcome_text e.posted.outcome)
-    ++ named_line (codes "MIC") (kept_words e.posted.mic)
+    ++ named_line (codes "MIC") (own_mic_words e.posted.mic)
 
 unfoldable pub received_title : Text
 received_title = codes "Evidence of a document that was received by AS2 (RFC 4130)\n\n"

@@ -1,5 +1,6 @@
 -- What the pages of evidence say in words.
-use Rattle.std.specs.Prelude.{ℕ, ◌&&◌, codes, map, nat_le, Option, Some, None, ◌++◌, if◌then◌else◌}
+use Rattle.std.specs.Prelude.{ℕ, codes, map, Option, Some, None, ◌++◌, if◌then◌else◌}
+use Rattle.as2_names.specs.Ascii.{is_printable, question_mark}
 use Rattle.as2_exchange.specs.Agreement.{Text}
 use Rattle.as2_exchange.specs.declared.inbox.ReceiptStage.{ReceiptStage}
 use Rattle.as2_exchange.specs.declared.inbox.ReceiptStage.TheVariants.{Sent}
@@ -13,12 +14,12 @@ use Rattle.as2_mdn.specs.declared.detail.Detail.TheVariants.{New, Sending, Await
 use Rattle.as2_mdn.specs.declared.report.ReceiptMic.{ReceiptMic}
 
 -- a byte, where it prints, or a question mark
-abbrev pub shown_byte : ℕ → ℕ
-shown_byte byte = if nat_le 32 byte && nat_le byte 126 then byte else 63
+abbrev pub printing_byte : ℕ → ℕ
+printing_byte byte = if is_printable byte then byte else question_mark
 
--- a text of somebody else, each of its bytes so, so that it is one line
-abbrev pub shown_text : Text → Text
-shown_text text = map shown_byte text
+-- a text that somebody else wrote, with `?` for each byte that doesn't print: it is one line
+abbrev pub printing_text : Text → Text
+printing_text text = map printing_byte text
 
 -- ---- documents that are sent
 
@@ -39,7 +40,7 @@ detail_words MicDiffers = codes "a receipt says \"processed\", and the integrity
 detail_words TriesUsed = codes "no try since it was last to be sent was answered as it is agreed; the partner may have it"
 detail_words Overdue = codes "delivered, as the partner's answer says; no receipt came in time"
 
--- what stands behind a type
+-- behind a disposition's type: `/` and its modifier, where it has one
 abbrev pub modifier_words : Option Text → Text
 modifier_words None = codes ""
 modifier_words (Some modifier) = codes "/" ++ modifier
@@ -48,11 +49,11 @@ modifier_words (Some modifier) = codes "/" ++ modifier
 abbrev pub disposition_words : Text × Text → Text
 disposition_words disposition = disposition.0 ++ modifier_words (given_modifier disposition)
 
--- the MIC that a receipt gives (RFC 4130, section 7.4.3)
-abbrev pub given_words : Mic → Text
-given_words Missing = codes "-"
-given_words Unreadable = codes "can't be read"
-given_words (Given field) = field.0 ++ codes ", " ++ field.1
+-- the MIC that a receipt gives which came (RFC 4130, section 7.4.3)
+abbrev pub read_mic_words : Mic → Text
+read_mic_words Missing = codes "-"
+read_mic_words Unreadable = codes "can't be read"
+read_mic_words (Given field) = field.0 ++ codes ", " ++ field.1
 
 -- ---- documents that were received
 
@@ -67,7 +68,7 @@ receipt_stage_words NoReceipt receipt_stage = codes "none was asked for"
 receipt_stage_words Sync receipt_stage = codes "in the answer to the post; whether that arrived isn't known"
 receipt_stage_words (Async url) receipt_stage = taken_words receipt_stage
 
--- the MIC that the receipt gives, where there is one
-abbrev pub kept_words : Option ReceiptMic → Text
-kept_words None = codes "-"
-kept_words (Some mic) = mic_with_digest mic
+-- the MIC that our own receipt gives, where there is one
+abbrev pub own_mic_words : Option ReceiptMic → Text
+own_mic_words None = codes "-"
+own_mic_words (Some mic) = mic_with_digest mic

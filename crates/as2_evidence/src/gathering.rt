@@ -2,7 +2,7 @@
 ghost use Rattle.std.specs.Prelude.{◌≡◌, IfErr, option_map, true};
 ghost use Rattle.as2_audit.specs.Audits.{is_migrated};
 ghost use Rattle.as2_audit.specs.declared.findings.Mailbox.TheVariants as mailbox;
-ghost use Rattle.as2_evidence.specs.Evidence.{AreFilesWhere, AreSentFiles, IsEvidence};
+ghost use Rattle.as2_evidence.specs.Evidence.{AreFilesWhere, AreSentFiles, AreEvidenceFiles};
 ghost use Rattle.as2_evidence.specs.Files.{files_of};
 ghost use Rattle.as2_exchange.specs.State.{document};
 ghost use Rattle.as2_records.specs.Calls.{Reads};
@@ -25,7 +25,7 @@ fn received_evidence<R: Records>(
     number: u64,
 ) -> Result<Option<Vec<NewFile>>, StoreFault>
     ensures files { Reads
-        (λ s files. IsEvidence agreements.now s mailbox.Inbox number (option_map (λ v. files_of v.items) files))
+        (λ s files. AreEvidenceFiles agreements.now s mailbox.Inbox number (option_map (λ v. files_of v.items) files))
         (R.shows records.old) (R.shows records.new) result }
     ensures may { IfErr result (λ f. may_come f ≡ true) }
 {
@@ -80,7 +80,7 @@ pub fn evidence<R: Records>(
     number: u64,
 ) -> Result<Option<Vec<NewFile>>, StoreFault>
     ensures files { Reads
-        (λ s files. IsEvidence agreements.now s mailbox number (option_map (λ v. files_of v.items) files))
+        (λ s files. AreEvidenceFiles agreements.now s mailbox number (option_map (λ v. files_of v.items) files))
         (R.shows records.old) (R.shows records.new) result }
     ensures may { IfErr result (λ f. may_come f ≡ true) }
 {

@@ -1,6 +1,6 @@
 //! Documents that were received.
 ghost use Rattle.std.specs.Prelude.{◌≡◌, ◌++◌, IfOk, OnOk};
-ghost use Rattle.as2_evidence.specs.Evidence.{AreReceivedFiles, given_receipt};
+ghost use Rattle.as2_evidence.specs.Evidence.{AreReceivedFiles, own_receipt};
 ghost use Rattle.as2_evidence.specs.Files.{files_of};
 ghost use Rattle.as2_evidence.specs.Pages.{outcome_lines, received_content, received_names, received_page, received_title};
 ghost use Rattle.as2_exchange.specs.Readings.{receipt_bytes};
@@ -8,7 +8,7 @@ ghost use Rattle.as2_exchange.specs.Recording.{receipt_out};
 
 use crate::files::{NewFile, files_in, in_pieces};
 use crate::lines::{add_check_commands, add_checks, add_found, stem};
-use crate::words::{kept_words, receipt_stage_words, shown_text};
+use crate::words::{own_mic_words, printing_text, receipt_stage_words};
 use as2_agreement::Agreements;
 use as2_audit::{Mailbox, received_fault};
 use as2_exchange::{InEntry, Posted, ReceiptStage};
@@ -40,7 +40,7 @@ fn add_names(text: &mut Vec<u8>, entry: &InEntry) -> Result<(), AllocError>
 fn add_content(alloc: Global, text: &mut Vec<u8>, entry: &InEntry) -> Result<(), AllocError>
     ensures { OnOk result (text.new.items ≡ text.old.items ++ received_content entry.now) }
 {
-    let media = shown_text(alloc, entry.posted.content_type.as_slice())?;
+    let media = printing_text(alloc, entry.posted.content_type.as_slice())?;
     add_text_line(text, b"type", &media)?;
     add_size_line(text, entry.posted.content.len())?;
     add_checks(text, &entry.posted.content)
@@ -51,7 +51,7 @@ fn add_content(alloc: Global, text: &mut Vec<u8>, entry: &InEntry) -> Result<(),
 fn add_outcome(alloc: Global, text: &mut Vec<u8>, entry: &InEntry) -> Result<(), AllocError>
     ensures { OnOk result (text.new.items ≡ text.old.items ++ outcome_lines entry.now) }
 {
-    let mic = kept_words(alloc, entry.posted.mic)?;
+    let mic = own_mic_words(alloc, entry.posted.mic)?;
     add_text_line(
         text,
         b"receipt",
@@ -96,12 +96,12 @@ fn receipt_of(alloc: Global, agreements: &Agreements, entry: &InEntry) -> Result
 }
 
 /// The receipt of a document, where it was given.
-fn given_receipt(
+fn own_receipt(
     alloc: Global,
     agreements: &Agreements,
     entry: &InEntry,
 ) -> Result<Option<Pieces>, Memory>
-    ensures { IfOk result (λ receipt. receipt ≡ given_receipt agreements.now entry.now entry.now.receipt_stage) }
+    ensures { IfOk result (λ receipt. receipt ≡ own_receipt agreements.now entry.now entry.now.receipt_stage) }
 {
     match entry.receipt_stage {
         ReceiptStage::Sent => Ok(Some(receipt_of(alloc, agreements, entry)?)),
@@ -121,7 +121,7 @@ pub fn received_files(
     let came = date_of(entry.moment);
     let page = received_page(alloc, &entry, &came)?;
     let stem = stem(alloc, Mailbox::Inbox, entry.number)?;
-    let receipt = given_receipt(alloc, agreements, &entry)?;
+    let receipt = own_receipt(alloc, agreements, &entry)?;
     let Posted { content, .. } = entry.posted;
     files_in(alloc, &stem, content, receipt, &page)
 }

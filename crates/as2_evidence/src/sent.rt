@@ -7,7 +7,7 @@ ghost use Rattle.as2_evidence.specs.Pages.{fields_command, known_lines, receipt_
 
 use crate::files::{NewFile, files_in};
 use crate::lines::{add_check_commands, add_checks, add_found, stem};
-use crate::words::{detail_words, disposition_words, given_words, shown_text};
+use crate::words::{detail_words, disposition_words, printing_text, read_mic_words};
 use as2_audit::{Mailbox, sent_fault};
 use as2_exchange::{Evidence, OutEntry};
 use as2_mdn::{Receipt, read_report};
@@ -31,11 +31,11 @@ fn fields_command(alloc: Global, stem: &str) -> Result<String, AllocError>
 fn add_receipt(alloc: Global, text: &mut Vec<u8>, receipt: &Receipt<'_>) -> Result<(), AllocError>
     ensures { OnOk result (text.new.items ≡ text.old.items ++ said_lines (Some receipt.now)) }
 {
-    let document = shown_text(alloc, receipt.original_id)?;
+    let document = printing_text(alloc, receipt.original_id)?;
     let disposition = disposition_words(alloc, &receipt.disposition)?;
-    let disposition = shown_text(alloc, &disposition)?;
-    let mic = given_words(alloc, &receipt.mic)?;
-    let mic = shown_text(alloc, &mic)?;
+    let disposition = printing_text(alloc, &disposition)?;
+    let mic = read_mic_words(alloc, &receipt.mic)?;
+    let mic = printing_text(alloc, &mic)?;
     add_text_line(text, b"document", &document)?;
     add_text_line(text, b"says", &disposition)?;
     add_text_line(text, b"MIC", &mic)
@@ -90,7 +90,7 @@ fn add_evidence(
     };
     text.extend_from_slice(receipt_heading().as_bytes())?;
     add_text_line(text, b"came", came)?;
-    let media = shown_text(alloc, evidence.content_type.as_slice())?;
+    let media = printing_text(alloc, evidence.content_type.as_slice())?;
     add_text_line(text, b"type", &media)?;
     add_said(alloc, text, evidence)?;
     text.extend_from_slice(fields_command(alloc, stem)?.as_bytes())?;

@@ -1,6 +1,6 @@
 //! What the pages say in words.
 ghost use Rattle.std.specs.Prelude.{◌≡◌, ◌++◌, IfOk, OnOk, option_map};
-ghost use Rattle.as2_evidence.specs.Words.{detail_words, disposition_words, given_words, kept_words, receipt_stage_words, modifier_words, shown_byte, shown_text, taken_words};
+ghost use Rattle.as2_evidence.specs.Words.{detail_words, disposition_words, read_mic_words, own_mic_words, receipt_stage_words, modifier_words, printing_byte, printing_text, taken_words};
 ghost use Rattle.as2_mdn.specs.Receipts.{mic_of};
 
 use as2_exchange::{ReceiptDelivery, ReceiptStage};
@@ -61,8 +61,8 @@ pub fn receipt_stage_words(how: &ReceiptDelivery, receipt_stage: ReceiptStage) -
 }
 
 /// A byte, where it prints, or a question mark.
-fn shown_byte(byte: u8) -> u8
-    ensures { result ≡ shown_byte byte }
+fn printing_byte(byte: u8) -> u8
+    ensures { result ≡ printing_byte byte }
 {
     if 32 <= byte && byte <= 126 {
         return byte;
@@ -70,13 +70,13 @@ fn shown_byte(byte: u8) -> u8
     b'?'
 }
 
-/// A text of somebody else, each byte that doesn't print as a question mark, so that it is one line.
-pub fn shown_text(alloc: Global, text: &[u8]) -> Result<Vec<u8>, AllocError>
-    ensures { IfOk result (λ shown. shown.items ≡ shown_text text.now) }
+/// A text that somebody else wrote, with `?` for each byte that doesn't print: it is one line.
+pub fn printing_text(alloc: Global, text: &[u8]) -> Result<Vec<u8>, AllocError>
+    ensures { IfOk result (λ shown. shown.items ≡ printing_text text.now) }
 {
     let mut shown = Vec::new(alloc);
     for byte in text {
-        shown.push(shown_byte(*byte))?;
+        shown.push(printing_byte(*byte))?;
     }
     Ok(shown)
 }
@@ -105,8 +105,8 @@ pub fn disposition_words(
 }
 
 /// The MIC that a receipt gives.
-pub fn given_words(alloc: Global, mic: &MicPart<'_>) -> Result<Vec<u8>, AllocError>
-    ensures { IfOk result (λ text. text.items ≡ given_words (mic_of mic.now)) }
+pub fn read_mic_words(alloc: Global, mic: &MicPart<'_>) -> Result<Vec<u8>, AllocError>
+    ensures { IfOk result (λ text. text.items ≡ read_mic_words (mic_of mic.now)) }
 {
     let field = match mic {
         MicPart::Missing => return Vec::from_slice(alloc, b"-"),
@@ -120,8 +120,8 @@ pub fn given_words(alloc: Global, mic: &MicPart<'_>) -> Result<Vec<u8>, AllocErr
 }
 
 /// The MIC that the receipt of a received document gives, where there is one.
-pub fn kept_words(alloc: Global, mic: Option<ReceiptMic>) -> Result<Vec<u8>, AllocError>
-    ensures { IfOk result (λ text. text.items ≡ kept_words mic) }
+pub fn own_mic_words(alloc: Global, mic: Option<ReceiptMic>) -> Result<Vec<u8>, AllocError>
+    ensures { IfOk result (λ text. text.items ≡ own_mic_words mic) }
 {
     let Some(mic) = mic else {
         return Vec::from_slice(alloc, b"-");

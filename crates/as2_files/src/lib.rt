@@ -15,5 +15,5 @@ mod stores;
 pub use file_system::FileSystem;
 pub use keeping::{End, InFiles, KeepFiles, close_into_files, open_in_files};
 pub use migrating::{Moved, migrate_in_files};
-pub use opening::{OpenFiles, Starting};
+pub use opening::{OpenFiles, SystemFiles};
 pub use stores::StoreFiles;

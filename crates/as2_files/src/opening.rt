@@ -1,4 +1,4 @@
-//! The two files of a store, as they are opened.
+//! What opens the two files of a store, as a parameter: the files of the operating system, or others.
 ghost use Rattle.std.specs.Prelude.{◌≡◌, ℕ, List, false, IfOk};
 ghost use Rattle.sqlite.specs.Files.{file_state};
 ghost use Rattle.sqlite.specs.State.{HasCleanDisk};
@@ -33,19 +33,19 @@ pub trait OpenFiles {
         ensures autocommit { IfOk result (λ c. c.in_transaction ≡ false) }
         ensures found { IfOk result (λ c. HasCleanDisk (file_state c) → (s : State) → HoldsState (image name.now) s
             → Rests (file_state c) s) }
-        ensures earlier { IfOk result (λ c. HasCleanDisk (file_state c) → (layout : Layout) (s : State)
+        ensures any_version { IfOk result (λ c. HasCleanDisk (file_state c) → (layout : Layout) (s : State)
             → HoldsAs layout (image name.now) s → RestsAs layout (file_state c) s) };
 }
 
 /// Files of the operating system. `start` stands for what they hold as they are opened, which no code can read; that the name leads to
 /// them no clause says.
 #[derive(Drop)]
-pub struct Starting<S> {
-    /// What they hold.
+pub struct SystemFiles<S> {
+    /// What the two files hold as they are opened, for contracts alone: the program names none of it (`Unknown`).
     pub start: S,
 }
 
-impl<S: Start + Drop> OpenFiles for Starting<S> {
+impl<S: Start + Drop> OpenFiles for SystemFiles<S> {
     type Disk = FileFrom<S>;
 
     ghost image = { λ _. image_at S.Start };

@@ -1,4 +1,8 @@
--- A stream, put together from its pieces.
+-- A whole stream, read by read (`answer_next`, `serve_stream`); one piece is in Streaming.antt. First: what was answered is a run of the
+-- machine (`taken_on`). Then `BetweenReads` from the start (`between_first`) and behind a piece (`between_on`). Then `Serves` at each end:
+-- in a piece (`serving_ends`, by `ends_on`), or outside one (`serves_..`).
+-- A new end: a case in `piece_left` and `ends_on`, or a `serves_..`. A new field: of `BetweenReads` in `between_first` and `between_on`; of
+-- `Serves` in `serving_ends`, `serves_as`, `serves_nothing`.
 use Rattle.std.proofs.Common.{◌≡◌, ℕ, true, List, [], ◌∷◌, ◌++◌, ◌⊎◌, ◌+◌, ◌<◌, ◌≤◌, length, Option, Some, None, refl, sym, ap, ◌∙◌, subst, append_assoc, append-nil, inl, inr, arith}
 use Rattle.std.specs.Io.KnownBytes.{Appends, Consumes, IsAtEnd, Keeps}
 use Rattle.as2_records.specs.Standing.{Medium, Standing}

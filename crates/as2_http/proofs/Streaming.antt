@@ -1,4 +1,4 @@
--- What the requests of a stream get, put together from its pieces.
+-- One piece of a stream: its requests, one after the other, and how the stream ends with it.
 use Rattle.std.proofs.Common.{◌≡◌, ℕ, true, false, List, [], ◌∷◌, ◌++◌, Some, None, Result, Ok, Err, refl, sym, ap, ◌∙◌, subst, append_assoc, append-nil}
 use Rattle.std.specs.Io.KnownBytes.{Appends}
 use Rattle.as2_records.specs.Standing.{Medium, Standing}

@@ -45,6 +45,10 @@ slash = 47
 abbrev pub digit_zero : ℕ
 digit_zero = 48
 
+-- b'1'
+abbrev pub digit_one : ℕ
+digit_one = 49
+
 -- b':'
 abbrev pub colon : ℕ
 colon = 58
@@ -64,6 +68,10 @@ equals_sign = 61
 -- b'>'
 abbrev pub close_angle : ℕ
 close_angle = 62
+
+-- b'?'
+abbrev pub question_mark : ℕ
+question_mark = 63
 
 -- b'\\'
 abbrev pub backslash : ℕ

@@ -14,7 +14,7 @@ use Rattle.as2_store.specs.Migrating.{CommitsMigrated, RestsAs, migrated_from}
 use Rattle.as2_store.specs.Stands.{Stands}
 use Rattle.as2_store.specs.Tables.{Layout, VersionOne, VersionTwo, VersionThree, schema_of}
 use Rattle.as2_station.proofs.ByHistory.{ends_by_history}
-use Rattle.as2_restart.specs.Migrations.{AreEither, MayMigrate, migration_trace}
+use Rattle.as2_restart.specs.Migrations.{AreBeforeOrMigrated, TriesMigration, migration_trace}
 use Rattle.as2_restart.specs.Restarts.{LeadsToHeld, ComesTo, Counts, a_migration}
 
 some_is : (s t : State) → Some s ≡ Some t → s ≡ t
@@ -47,7 +47,7 @@ leads A layout old new s opened rests it = (it.state, told_so A layout old.now s
 
 -- where it wasn't answered, the tables as they were
 as_before : (A : Agreements) (layout : Layout) (old : Connected) (s : State) → IsTrue old.is_open → RestsAs layout old s → (image : Image) (db : Trees)
-    → HoldsDatabase image db → db ≡ old.committed.trees → AreEither A false layout s image
+    → HoldsDatabase image db → db ≡ old.committed.trees → AreBeforeOrMigrated A false layout s image
 as_before A layout old s opened rests image db held same =
     let stands = rests.stands opened in
     let whole : old.now ≡ record { schema = schema_of layout; trees = old.now.trees } = ap (λ (x : Schema). let d : Database = record { schema = x; trees = old.now.trees } in d) stands.schema in
@@ -61,15 +61,15 @@ as_before A layout old s opened rests image db held same =
 
 -- or what was committed
 as_committed : (A : Agreements) (layout : Layout) (old : Connected) (s : State) → IsTrue old.is_open → RestsAs layout old s → (image : Image) (db : Trees)
-    → HoldsDatabase image db → CommitsMigrated old db → AreEither A false layout s image
+    → HoldsDatabase image db → CommitsMigrated old db → AreBeforeOrMigrated A false layout s image
 as_committed A layout old s opened rests image db held it =
     let next : KeepsNextTables db (migrated_from layout s) = it.stands layout s rests in
     record { state = next.state; comes = untold A layout old.now s next.state (rests.stands opened) next.is; held = inl (db, ∣ held ∣₁, next.keeps) }
 
 -- what a crash leaves of it
-pub either : (A : Agreements) (is_answered : Bool) (layout : Layout) (old new : Connected) (s : State) → MayMigrate is_answered old new → HasCleanDisk new
+pub either : (A : Agreements) (is_answered : Bool) (layout : Layout) (old new : Connected) (s : State) → TriesMigration is_answered old new → HasCleanDisk new
     → IsTrue old.is_open → ((db : Trees) → old.may_leave db → db ≡ old.committed.trees) → RestsAs layout old s
-    → (image : Image) (db : Trees) → HoldsDatabase image db → new.may_leave db → AreEither A is_answered layout s image
+    → (image : Image) (db : Trees) → HoldsDatabase image db → new.may_leave db → AreBeforeOrMigrated A is_answered layout s image
 either A true layout old new s it clean opened settled rests image db held may =
     let reached = it.done refl clean layout s rests in
     record { state = reached.state; comes = told_so A layout old.now s reached.state (rests.stands opened) reached.is; held = inl (db, ∣ held ∣₁, reached.lasts.each db may) }

@@ -24,14 +24,14 @@ abbrev pub told_migration : Bool → Layout → State → Trace
 told_migration is_answered layout s = if is_answered then migration_trace layout s else []
 
 -- a migration was answered, and done, or it wasn't, and may be done once what it commits is found
-pub record MayMigrate (is_answered : Bool) (old new : Connected) : Type 0 where
+pub record TriesMigration (is_answered : Bool) (old new : Connected) : Type 0 where
   pub clean : HasCleanDisk new → HasCleanDisk old
   pub done : IsTrue is_answered → HasCleanDisk new → (layout : Layout) (s : State) → RestsAs layout old s → ReachesTables new (migrated_from layout s)
   pub crash : Survives old new (CommitsMigrated old)
 
 -- What was told leads to the state that the files hold, and they are whole: of the version that is read or, where no answer came, as
 -- they were.
-pub record AreEither (A : Agreements) (is_answered : Bool) (layout : Layout) (s : State) (image : Image) : Type 0 where
+pub record AreBeforeOrMigrated (A : Agreements) (is_answered : Bool) (layout : Layout) (s : State) (image : Image) : Type 0 where
   pub state : State
   pub comes : ComesTo A (told_migration is_answered layout s) s state
   pub held : HoldsState image state ⊎ ((is_answered ≡ false) × HoldsAs layout image state)

@@ -8,7 +8,7 @@ ghost use Rattle.as2_exchange.specs.State.{State};
 ghost use Rattle.as2_store.specs.Migrating.{RestsAs};
 ghost use Rattle.as2_store.specs.Tables.{Layout};
 ghost use Rattle.as2_storage.specs.Files.{HoldsAs};
-ghost use Rattle.as2_restart.specs.Migrations.{AreEither, MayMigrate, migration_trace};
+ghost use Rattle.as2_restart.specs.Migrations.{AreBeforeOrMigrated, TriesMigration, migration_trace};
 ghost use Rattle.as2_restart.specs.Restarts.{LeadsToHeld};
 
 use as2_kept::Kept;
@@ -27,7 +27,7 @@ pub struct StoppedMigration<D: Disk> {
     pub files: Files<D>,
 }
 
-/// Opens files whose tables are of any version. None where that failed.
+/// Opens the two files of a database: the connection stands for what they hold, of whatever version. None where the open failed.
 pub fn open_tables<D: Disk + Drop>(
     alloc: Global,
     files: Files<D>,
@@ -35,20 +35,20 @@ pub fn open_tables<D: Disk + Drop>(
 ) -> Option<Connection<FileStore<D>>>
     requires log { IsTrue (D.Disk.is_usable files.log) }
     requires db { IsTrue (D.Disk.is_usable files.db) }
-    ensures autocommit { IfSome result (λ found. found.in_transaction ≡ false) }
-    ensures clean { IfSome result (λ found. HasCleanDisk (file_state found) → AreClean D.Disk files.log files.db) }
-    ensures open { IfSome result (λ found. HasCleanDisk (file_state found) → IsTrue (file_state found).is_open) }
-    ensures found { IfSome result (λ found. HasCleanDisk (file_state found) → (layout : Layout) (s : State)
-        → HoldsAs layout (image_of D.Disk files) s → RestsAs layout (file_state found) s) }
+    ensures autocommit { IfSome result (λ conn. conn.in_transaction ≡ false) }
+    ensures clean { IfSome result (λ conn. HasCleanDisk (file_state conn) → AreClean D.Disk files.log files.db) }
+    ensures open { IfSome result (λ conn. HasCleanDisk (file_state conn) → IsTrue (file_state conn).is_open) }
+    ensures any_version { IfSome result (λ conn. HasCleanDisk (file_state conn) → (layout : Layout) (s : State)
+        → HoldsAs layout (image_of D.Disk files) s → RestsAs layout (file_state conn) s) }
 {
     match Connection::open_files(alloc, files, options) {
-        Ok(found) => Some(found),
+        Ok(conn) => Some(conn),
         Err(_) => None,
     }
 }
 
 /// Opens files whose tables are of an earlier version, and migrates them: the station over them stands for the state that this leads
-/// to. None where the open or the migration failed.
+/// to. None where the open or the migration failed, also where the tables are of the version that is read.
 pub fn open_and_migrate<D: Disk + Drop>(
     alloc: Global,
     files: Files<D>,
@@ -56,15 +56,15 @@ pub fn open_and_migrate<D: Disk + Drop>(
 ) -> Option<Station<Kept<FileStore<D>>>>
     requires log { IsTrue (D.Disk.is_usable files.log) }
     requires db { IsTrue (D.Disk.is_usable files.db) }
-    ensures clean { IfSome result (λ again. HasCleanDisk (file_state again) → AreClean D.Disk files.log files.db) }
-    ensures migrated { IfSome result (λ again. HasCleanDisk (file_state again)
+    ensures clean { IfSome result (λ opened. HasCleanDisk (file_state opened) → AreClean D.Disk files.log files.db) }
+    ensures migrated { IfSome result (λ opened. HasCleanDisk (file_state opened)
         → (A : Agreements) (layout : Layout) (s : State) → HoldsAs layout (image_of D.Disk files) s
-        → LeadsToHeld A (migration_trace layout s) s (file_state again)) }
+        → LeadsToHeld A (migration_trace layout s) s (file_state opened)) }
 {
-    let Ok(found) = Connection::open_files(alloc, files, options) else {
+    let Ok(conn) = Connection::open_files(alloc, files, options) else {
         return None;
     };
-    match Store::migrate(found) {
+    match Store::migrate(conn) {
         Ok(store) => Some(Station::new(Kept::new(store))),
         Err(_) => None,
     }
@@ -75,7 +75,7 @@ fn try_migration<D: Disk + Drop>(
     earlier: Connection<FileStore<D>>,
 ) -> (bool, Connection<FileStore<D>>)
     requires autocommit { earlier.in_transaction ≡ false }
-    ensures { MayMigrate result.0 (file_state earlier) (file_state result.1) }
+    ensures { TriesMigration result.0 (file_state earlier) (file_state result.1) }
 {
     match Store::migrate(earlier) {
         Ok(store) => (true, store.into_connection()),
@@ -90,7 +90,7 @@ pub fn migrate_then_stop<D: Crash + Drop>(earlier: Connection<FileStore<D>>) -> 
     ensures clean { AreClean D.Disk result.files.log result.files.db → HasCleanDisk (file_state earlier) }
     ensures left { AreClean D.Disk result.files.log result.files.db → IsTrue (file_state earlier).is_open
         → (A : Agreements) (layout : Layout) (s : State) → RestsAs layout (file_state earlier) s
-        → ∥ AreEither A result.is_answered layout s (image_of D.Disk result.files) ∥₁ }
+        → ∥ AreBeforeOrMigrated A result.is_answered layout s (image_of D.Disk result.files) ∥₁ }
 {
     let (is_answered, conn) = try_migration(earlier);
     let mut files = conn.into_store().close();

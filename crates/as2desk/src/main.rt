@@ -3,9 +3,9 @@
 
 ghost use Rattle.as2_http.specs.Devices.{OpensLedger};
 
-use as2_connections::{Progress, Sockets, clock};
+use as2_connections::{ProgressLine, Sockets, clock};
 use as2_desk::{Console, Host, Outside};
-use as2_files::{FileSystem, InFiles, KeepFiles, OpenFiles, Starting, StoreFiles};
+use as2_files::{FileSystem, InFiles, KeepFiles, OpenFiles, StoreFiles, SystemFiles};
 use as2_host::{Lines, OpenStores};
 use as2_http::Counted;
 use as2_kept::Kept;
@@ -37,7 +37,7 @@ fn run<O: OpenStores, A: Ledger, B: Ledger, C: Ledger, D: Ledger, E: Ledger, G: 
     rt: &HostRuntime,
     words: &[&str],
     stores: O,
-    hints: Lines<LineWriter<Stderr>, Progress<'_>>,
+    hints: Lines<LineWriter<Stderr>, ProgressLine<'_>>,
     reads: Counts,
     writes: Counts,
     says: Counts,
@@ -52,7 +52,7 @@ fn run<O: OpenStores, A: Ledger, B: Ledger, C: Ledger, D: Ledger, E: Ledger, G: 
     let mut console: Console<
         Counted<Stdin, A, B>,
         Counted<Stdout, C, D>,
-        Lines<LineWriter<Stderr>, Progress<'_>>,
+        Lines<LineWriter<Stderr>, ProgressLine<'_>>,
         Counted<Stderr, E, G>,
     > = Console {
         input: Counted::new(rt.stdin(), reads.calls, reads.failed),
@@ -77,7 +77,7 @@ fn run_over_stores<R: Records + Drop, K: KeepFiles<R> + Drop>(
     rt: &HostRuntime,
     words: &[&str],
     keeper: K,
-    hints: Lines<LineWriter<Stderr>, Progress<'_>>,
+    hints: Lines<LineWriter<Stderr>, ProgressLine<'_>>,
 ) -> u8 {
     let stores: StoreFiles<'_, R, K> = StoreFiles::new(FileSystem { rt }, keeper);
     let (status, _stores) = run::<StoreFiles<'_, R, K>, Brand, Brand, Brand, Brand, Brand, Brand>(
@@ -106,7 +106,7 @@ fn run_over_kept<D: Disk + Drop, K: KeepFiles<Kept<FileStore<D>>> + Drop>(
     rt: &HostRuntime,
     words: &[&str],
     keeper: K,
-    hints: Lines<LineWriter<Stderr>, Progress<'_>>,
+    hints: Lines<LineWriter<Stderr>, ProgressLine<'_>>,
 ) -> u8 {
     run_over_stores::<Kept<FileStore<D>>, K>(rt, words, keeper, hints)
 }
@@ -116,7 +116,7 @@ fn run_over_files<F: OpenFiles + Drop>(
     rt: &HostRuntime,
     words: &[&str],
     opener: F,
-    hints: Lines<LineWriter<Stderr>, Progress<'_>>,
+    hints: Lines<LineWriter<Stderr>, ProgressLine<'_>>,
 ) -> u8 {
     run_over_kept::<F::Disk, InFiles<F>>(rt, words, InFiles { opener }, hints)
 }
@@ -149,7 +149,7 @@ fn main(rt: HostRuntime) -> io::Result<ExitCode> {
         texts.push(word.as_str())?;
     }
     let lines = LineWriter::new(rt.alloc(), rt.stderr())?;
-    let hints = Lines::new(lines, Progress::new(&rt));
-    let status = run_over_files(&rt, texts.as_slice(), Starting { start: Unknown }, hints);
+    let hints = Lines::new(lines, ProgressLine::new(&rt));
+    let status = run_over_files(&rt, texts.as_slice(), SystemFiles { start: Unknown }, hints);
     Ok(ExitCode::from(status))
 }

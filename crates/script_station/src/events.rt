@@ -1,60 +1,60 @@
 //! Lines that tell an event: the moment, its name and its numbers, and behind ` | ` what it brings.
 //!
-//! `post` and `reply` bring a body and fields `NAME: VALUE`. The body is a count of letters `a`, the name of a text, or a text. The
-//! fields are those of the text `BODY-fields`, where the body is a text of that name, else those of `post-fields`; a field of the line
-//! stands in place of the one of its name, and is left out where it has no value. Each `OLD -> NEW` is a change in the body.
+//! `post`, the replies and `submit` bring a content: a count of letters `a`, the name of a text, or a text without `:` and ` -> `. A
+//! post and a reply have the fields `NAME: VALUE` of the text `CONTENT-fields`, where there is one, else of `post-fields`; a field of
+//! the line stands in place of the one of its name, and is left out where it has no value. Each `OLD -> NEW` is a change in the content.
 use crate::made::{change, copied, made};
 use as2_exchange::{Event, TryAnswer};
 use as2_mic::Pieces;
 use as2_text::{AsName, Head, Moment};
 use script_lines::{Answer, Settings, Trouble};
 
-/// What a line brings.
+/// The parts of a line, by their kinds.
 #[derive(Drop)]
-struct Brought<'a> {
+struct LineParts<'a> {
     fields: Vec<(&'a str, &'a str)>,
     /// Changes in the body.
     changes: Vec<(&'a str, &'a str)>,
-    /// All else, in turn; the first names the event.
-    words: Vec<&'a str>,
+    /// The other parts: the event or a status, then what it names.
+    texts: Vec<&'a str>,
 }
 
-impl<'a> Brought<'a> {
-    /// The word at that place, or no letter.
-    fn word(&self, place: usize) -> &'a str {
-        self.words.get(place).copied().unwrap_or("")
+impl<'a> LineParts<'a> {
+    /// The text at that place, or an empty one.
+    fn text_at(&self, place: usize) -> &'a str {
+        self.texts.get(place).copied().unwrap_or("")
     }
 }
 
-/// Adds a part of a line to what it brings.
-fn add_part<'a>(brought: &mut Brought<'a>, part: &'a str, answer: &mut Answer) {
+/// Adds a part of a line to those of its kind.
+fn add_part<'a>(parts: &mut LineParts<'a>, part: &'a str, answer: &mut Answer) {
     let is_added = if let Some(change) = part.split_once(" -> ") {
-        brought.changes.push(change).is_ok()
+        parts.changes.push(change).is_ok()
     } else if let Some((name, value)) = part.split_once(":") {
-        brought.fields.push((name, value.trim())).is_ok()
+        parts.fields.push((name, value.trim())).is_ok()
     } else {
-        brought.words.push(part.trim()).is_ok()
+        parts.texts.push(part.trim()).is_ok()
     };
     if !is_added {
         answer.fail(Trouble::Memory);
     }
 }
 
-/// What a line brings in its parts, which stand between ` | `.
-fn brought_by<'a>(line: &'a str, answer: &mut Answer) -> Brought<'a> {
+/// The parts of a line, which stand between ` | `.
+fn parts_of<'a>(line: &'a str, answer: &mut Answer) -> LineParts<'a> {
     let alloc = answer.alloc();
-    let mut brought = Brought {
+    let mut parts = LineParts {
         fields: Vec::new(alloc),
         changes: Vec::new(alloc),
-        words: Vec::new(alloc),
+        texts: Vec::new(alloc),
     };
     for part in line.split(" | ") {
-        add_part(&mut brought, part, answer);
+        add_part(&mut parts, part, answer);
     }
-    brought
+    parts
 }
 
-/// The value of the field of that name among these.
+/// The value of the field of that name among these: the first, where it stands twice.
 fn value_of<'a>(fields: &[(&'a str, &'a str)], name: &str) -> Option<&'a str> {
     for (field, value) in fields {
         if *field == name {
@@ -75,36 +75,36 @@ pub fn add_field(head: &mut Head, name: &str, value: &str, answer: &mut Answer) 
     }
 }
 
-/// Adds the plain fields, each with the value that the others give it.
-fn add_plain<'a>(
+/// Adds the default fields, each with the value that the line gives it.
+fn add_defaults<'a>(
     head: &mut Head,
-    plain: &[(&'a str, &'a str)],
-    others: &[(&'a str, &'a str)],
+    defaults: &[(&'a str, &'a str)],
+    given: &[(&'a str, &'a str)],
     answer: &mut Answer,
 ) {
-    for (name, value) in plain {
-        let value = value_of(others, name).unwrap_or(value);
+    for (name, value) in defaults {
+        let value = value_of(given, name).unwrap_or(value);
         add_field(head, name, value, answer);
     }
 }
 
-/// Adds the others that are not among the plain fields.
-fn add_others<'a>(
+/// Adds the line's fields that are not among the default ones.
+fn add_given<'a>(
     head: &mut Head,
-    plain: &[(&'a str, &'a str)],
-    others: &[(&'a str, &'a str)],
+    defaults: &[(&'a str, &'a str)],
+    given: &[(&'a str, &'a str)],
     answer: &mut Answer,
 ) {
-    for (name, value) in others {
-        if value_of(plain, name).is_none() {
+    for (name, value) in given {
+        if value_of(defaults, name).is_none() {
             add_field(head, name, value, answer);
         }
     }
 }
 
-/// The text of the fields that a body of that kind has of itself.
-fn plain_fields<'a>(settings: &'a Settings, kind: &str, answer: &mut Answer) -> &'a str {
-    let name = made(format!(in answer.alloc(); "{kind}-fields"), answer);
+/// The fields of the text `CONTENT-fields`, else of `post-fields`.
+fn default_fields<'a>(settings: &'a Settings, content: &str, answer: &mut Answer) -> &'a str {
+    let name = made(format!(in answer.alloc(); "{content}-fields"), answer);
     match settings.text(name.as_str()) {
         Some(fields) => fields,
         None => settings.text("post-fields").unwrap_or(""),
@@ -112,13 +112,13 @@ fn plain_fields<'a>(settings: &'a Settings, kind: &str, answer: &mut Answer) -> 
 }
 
 /// The head that a line brings.
-fn head_of(settings: &Settings, brought: &Brought<'_>, answer: &mut Answer) -> Head {
-    let plain = plain_fields(settings, brought.word(1), answer);
-    let plain = brought_by(plain, answer);
-    let (plain, others) = (plain.fields.as_slice(), brought.fields.as_slice());
+fn head_of(settings: &Settings, parts: &LineParts<'_>, answer: &mut Answer) -> Head {
+    let defaults = default_fields(settings, parts.text_at(1), answer);
+    let defaults = parts_of(defaults, answer);
+    let (defaults, given) = (defaults.fields.as_slice(), parts.fields.as_slice());
     let mut head = Head::new(answer.alloc());
-    add_plain(&mut head, plain, others, answer);
-    add_others(&mut head, plain, others, answer);
+    add_defaults(&mut head, defaults, given, answer);
+    add_given(&mut head, defaults, given, answer);
     head
 }
 
@@ -155,16 +155,16 @@ fn changed(text: &str, changes: &[(&str, &str)], answer: &mut Answer) -> Pieces 
 /// The body that the word at that place tells.
 fn body_at(
     settings: &Settings,
-    brought: &Brought<'_>,
+    parts: &LineParts<'_>,
     place: usize,
     answer: &mut Answer,
 ) -> Pieces {
-    let word = brought.word(place);
+    let word = parts.text_at(place);
     match word.parse::<usize>() {
         Ok(count) => letters(count, answer),
         Err(_) => {
             let text = settings.text(word).unwrap_or(word);
-            changed(text, brought.changes.as_slice(), answer)
+            changed(text, parts.changes.as_slice(), answer)
         }
     }
 }
@@ -193,15 +193,15 @@ pub fn moment_in(word: &str, answer: &mut Answer) -> Option<Moment> {
 /// What came of a try: nothing, where no status is told.
 fn reply(
     settings: &Settings,
-    brought: &Brought<'_>,
+    parts: &LineParts<'_>,
     status: &str,
     answer: &mut Answer,
 ) -> TryAnswer {
     match status.parse::<u16>() {
         Ok(status) => TryAnswer::Reply {
             status,
-            head: head_of(settings, brought, answer),
-            body: body_at(settings, brought, 1, answer),
+            head: head_of(settings, parts, answer),
+            body: body_at(settings, parts, 1, answer),
         },
         Err(_) => {
             if !status.is_empty() {
@@ -212,10 +212,10 @@ fn reply(
     }
 }
 
-/// The answer to a try that a line tells: a status, and behind it what is brought; nothing, where the line is empty.
+/// The answer to a try that a line tells: a status, and behind it what is parts; nothing, where the line is empty.
 pub fn try_answer(settings: &Settings, line: &str, answer: &mut Answer) -> TryAnswer {
-    let brought = brought_by(line, answer);
-    reply(settings, &brought, brought.word(0), answer)
+    let parts = parts_of(line, answer);
+    reply(settings, &parts, parts.text_at(0), answer)
 }
 
 /// The words of an event: its moment, its name, a number, and a status.
@@ -238,10 +238,10 @@ fn words_of(text: &str) -> Words<'_> {
 }
 
 /// `MOMENT post | CONTENT | NAME: VALUE | OLD -> NEW`.
-fn post(settings: &Settings, brought: &Brought<'_>, moment: Moment, answer: &mut Answer) -> Event {
+fn post(settings: &Settings, parts: &LineParts<'_>, moment: Moment, answer: &mut Answer) -> Event {
     Event::Post {
-        head: head_of(settings, brought, answer),
-        body: body_at(settings, brought, 1, answer),
+        head: head_of(settings, parts, answer),
+        body: body_at(settings, parts, 1, answer),
         moment,
     }
 }
@@ -249,16 +249,16 @@ fn post(settings: &Settings, brought: &Brought<'_>, moment: Moment, answer: &mut
 /// `MOMENT submit | ORGANIZATION | PARTNER | CONTENT`.
 fn submission(
     settings: &Settings,
-    brought: &Brought<'_>,
+    parts: &LineParts<'_>,
     moment: Moment,
     answer: &mut Answer,
 ) -> Option<Event> {
-    let organization = name_in(brought.word(1), answer)?;
-    let partner = name_in(brought.word(2), answer)?;
+    let organization = name_in(parts.text_at(1), answer)?;
+    let partner = name_in(parts.text_at(2), answer)?;
     Some(Event::Submit {
         organization,
         partner,
-        content: body_at(settings, brought, 3, answer),
+        content: body_at(settings, parts, 3, answer),
         moment,
     })
 }
@@ -266,7 +266,7 @@ fn submission(
 /// An event of a try, of a document or of a receipt, or a document that is to be sent anew.
 fn try_event(
     settings: &Settings,
-    brought: &Brought<'_>,
+    parts: &LineParts<'_>,
     words: &Words<'_>,
     moment: Moment,
     answer: &mut Answer,
@@ -278,12 +278,12 @@ fn try_event(
         "begin-mdn" => Some(Event::BeginReceipt { number, moment }),
         "reply" | "unanswered" => Some(Event::Outcome {
             number,
-            answer: reply(settings, brought, words.status, answer),
+            answer: reply(settings, parts, words.status, answer),
             moment,
         }),
         "reply-mdn" | "unanswered-mdn" => Some(Event::OutcomeReceipt {
             number,
-            answer: reply(settings, brought, words.status, answer),
+            answer: reply(settings, parts, words.status, answer),
             moment,
         }),
         _ => {
@@ -294,23 +294,33 @@ fn try_event(
 }
 
 /// The event that is told by what a line brings.
-fn event_of(settings: &Settings, brought: &Brought<'_>, answer: &mut Answer) -> Option<Event> {
-    let words = words_of(brought.word(0));
+fn event_of(settings: &Settings, parts: &LineParts<'_>, answer: &mut Answer) -> Option<Event> {
+    let words = words_of(parts.text_at(0));
     let moment = moment_in(words.moment, answer)?;
     match words.name {
         "" => {
-            answer.lack("no moment");
+            answer.lack("no event");
             None
         }
-        "post" => Some(post(settings, brought, moment, answer)),
-        "submit" => submission(settings, brought, moment, answer),
+        "post" => Some(post(settings, parts, moment, answer)),
+        "submit" => submission(settings, parts, moment, answer),
         "tick" => Some(Event::Tick { moment }),
-        _ => try_event(settings, brought, &words, moment, answer),
+        "begin"
+        | "resend"
+        | "begin-mdn"
+        | "reply"
+        | "unanswered"
+        | "reply-mdn"
+        | "unanswered-mdn" => try_event(settings, parts, &words, moment, answer),
+        _ => {
+            answer.lack("no such event");
+            None
+        }
     }
 }
 
 /// The event that a line tells.
 pub fn event(settings: &Settings, line: &str, answer: &mut Answer) -> Option<Event> {
-    let brought = brought_by(line, answer);
-    event_of(settings, &brought, answer)
+    let parts = parts_of(line, answer);
+    event_of(settings, &parts, answer)
 }

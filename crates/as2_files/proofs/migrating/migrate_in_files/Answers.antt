@@ -18,7 +18,7 @@ returns-clause-moved g c = λ honest s held.
     let clean_made = c.counted-after.ensures.given_back.clean clean_last in
     let clean_asked = migrates.clean clean_made in
     let clean_opened = c.counted-before.ensures.given_back.clean clean_asked in
-    let rests = c.in-Ok.ensures.earlier clean_opened layout s held.2 in
+    let rests = c.in-Ok.ensures.any_version clean_opened layout s held.2 in
     let again = back_as layout opened asked s c.counted-before.ensures.given_back clean_asked rests in
     let next = reaches_moved layout (g.F.OpenFiles.image c.args.name.now) made s held.1 held.2 (migrates.done clean_made layout s again) in
     c.closed.ensures.kept honest (migrated_if_first s) (back_to made last (migrated_if_first s) c.counted-after.ensures.given_back clean_last next)

@@ -17,7 +17,7 @@ returns-in-Ok-migrate-clause-migrated g c clean A layout s held =
     let at : HasCleanDisk (file_state c.in-Ok-migrate.store) = subst (λ h. HasCleanDisk (file_state h)) (c.new-in-Ok-migrate.ensures ∙ c.new.ensures) clean in
     let migrated = c.in-Ok-migrate.ensures.migrated in
     let was = migrated.clean at in
-    let earlier = c.in-Ok.found in
+    let earlier = c.in-Ok.conn in
     let opened = c.in-Ok.ensures.opened was in
     let rests = rests_held_as layout (file_state earlier) (image_of g.D.Disk c.args.files) s opened.0 opened.1 (c.in-Ok.ensures.found was).holds held in
     subst (λ h. LeadsToHeld A (migration_trace layout s) s (file_state h)) (sym (c.new-in-Ok-migrate.ensures ∙ c.new.ensures))

@@ -1,3 +1,7 @@
+-- `add`, exit by exit: committed, the commit failed, raising the counter failed, it raised no row (the number isn't the next). Where
+-- `put_received` fails the tactic finds the answer. `old`, `mid`, `last`, `end` stand before, behind the rows, behind the counter, behind the
+-- commit or the drop. What the two statements make of the tables is `adds` (AddedTables.antt). One statement more: a state between `mid` and
+-- `last`, an `inside_then` in each exit, a step in `stands_received`, and one exit more.
 use Rattle.std.proofs.Common.{refl, false, true, rules, ◌≡◌, subst, arith, Ok, Err}
 use Rattle.sqlite.specs.Held.{state}
 use Rattle.sqlite.specs.State.{HasCleanDisk, Shows}

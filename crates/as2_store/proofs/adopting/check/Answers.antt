@@ -1,3 +1,7 @@
+-- `check`, exit by exit: the query failed (in-Err), there is no table (is_bare), the row says no (in-Some), committed (in_default-commit), the
+-- commit failed (the last two). Each refusal gives the connection back (`gives_back`) with its reason (`unread_by`, `bare_by`, `said_by`,
+-- `comes`); the one commit `adopts`: all of HandedBack.antt. Another query: `meta_read_text` in Statements.antt. Another refusal: a pair of
+-- `given_back` and `reason` here, and its reason in HandedBack.antt.
 use Rattle.std.proofs.Common.{rules, true, ◌≡◌, ◌∙◌, ℕ, [], sym, ap, refl, subst, arith, Some}
 use Rattle.sqlite.specs.Held.{state}
 use Rattle.sqlite.specs.Schema.{Schema}

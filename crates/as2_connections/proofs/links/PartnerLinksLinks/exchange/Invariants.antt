@@ -1,4 +1,4 @@
-use Rattle.as2_connections.proofs.links.ConnectionsLinks.exchange.Given as goal
+use Rattle.as2_connections.proofs.links.PartnerLinksLinks.exchange.Given as goal
 
 abbrev pub ghosts-exchange_counted-A-Ledger : goal.ghosts-exchange_counted-A-Ledger
 ghosts-exchange_counted-A-Ledger a = record { name = a.reads.name; parts = a.reads.parts }
