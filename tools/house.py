@@ -59,7 +59,7 @@ def parameters(signature):
 
 
 def functions(text):
-    """Returns of each function its name, how many parameters it has, and the lines of its contract."""
+    """Returns of each function its name, how many parameters it has, and the lines of its contract, without comments."""
     lines, found = text.split("\n"), []
     for at, line in enumerate(lines):
         begins = FUNCTION.match(line)
@@ -77,7 +77,7 @@ def functions(text):
             if contract and contract[-1].endswith("};"):
                 break
             place += 1
-        found.append((begins[2], parameters(signature), [it for it in contract if it != "{"]))
+        found.append((begins[2], parameters(signature), [it for it in contract if it != "{" and not it.startswith("//")]))
     return found
 
 
