@@ -59,21 +59,27 @@ fn mic_for(outcome: Outcome, ask: &ReceiptAsk<'_>, content: &Pieces) -> Option<R
     })
 }
 
+/// A head, and how it asks for a receipt.
+struct AskingHead<'a> {
+    head: &'a Head,
+    ask: ReceiptAsk<'a>,
+}
+
 /// The document, with what is made of it.
 #[tactic(auto, unfolding(as2_exchange::specs::Readings::document_outcome, as2_exchange::specs::Readings::how_of, as2_exchange::specs::Readings::mic_for))]
 fn posted(
     alloc: Global,
     opened: Opened<'_>,
     id: MessageId,
-    head: &Head,
-    ask: &ReceiptAsk<'_>,
+    asking: &AskingHead<'_>,
     content: Pieces,
 ) -> Result<Posted, Memory>
-    requires { is_asked head.now (request_of ask.now) }
+    requires { is_asked asking.now.head.now (request_of asking.now.ask) }
     ensures { IfOk result (λ p. p
-        ≡ posted_document AllDigests (names_in opened.entry) id (opened_type opened.entry) head.now content
-        (request_of ask.now)) }
+        ≡ posted_document AllDigests (names_in opened.entry) id (opened_type opened.entry) asking.now.head.now content
+        (request_of asking.now.ask)) }
 {
+    let AskingHead { head, ask } = asking;
     let outcome = outcome_of(opened.media.kind(), encoding_refused(head), ask);
     let how = how_of(alloc, head, ask)?;
     let mic = mic_for(outcome, ask, &content);
@@ -106,5 +112,6 @@ pub fn document(
     let Ok(ask) = ReceiptAsk::read(head) else {
         return Ok(Err(Line::BadAsk));
     };
-    Ok(Ok(posted(alloc, opened, id, head, &ask, content)?))
+    let asking = AskingHead { head, ask };
+    Ok(Ok(posted(alloc, opened, id, &asking, content)?))
 }

@@ -7,7 +7,7 @@ ghost use Rattle.as2_exchange.specs.declared.fault.StoreFault.TheVariants as fau
 ghost use Rattle.as2_posts.specs.Sending.{content_fields, name_fields, request_to};
 
 use as2_agreement::{Agreements, Asked, Partner, UrlText};
-use as2_exchange::{Bytes, Job, StoreFault};
+use as2_exchange::{Bytes, Job, OutEntry, StoreFault};
 use as2_mdn::add_line;
 use as2_mic::Pieces;
 use as2_text::{AsName, IdFault, Memory, MessageId, Url};
@@ -164,19 +164,17 @@ fn job_to(
     url: &Url<'_>,
     agreements: &Agreements,
     partner: &Partner,
-    organization: &AsName,
-    id: &MessageId,
-    content: &Pieces,
+    entry: &OutEntry,
 ) -> Result<Job, Memory>
     ensures job { IfOk result (λ job. job
-        ≡ request_to url.now agreements.now partner.now organization.now id.now content.now) }
+        ≡ request_to url.now agreements.now partner.now entry.now.organization entry.now.id entry.now.content) }
 {
-    let mut bytes = Vec::with_capacity(alloc, content.len().saturating_add(HEAD))?;
+    let mut bytes = Vec::with_capacity(alloc, entry.content.len().saturating_add(HEAD))?;
     add_opening(&mut bytes, url)?;
-    add_names(&mut bytes, partner, organization, id)?;
-    add_content_fields(&mut bytes, agreements, partner, content)?;
+    add_names(&mut bytes, partner, &entry.organization, &entry.id)?;
+    add_content_fields(&mut bytes, agreements, partner, &entry.content)?;
     add_text(&mut bytes, b"\r\n")?;
-    content.append_to(&mut bytes)?;
+    entry.content.append_to(&mut bytes)?;
     Ok(Job {
         authority: Bytes::keep(alloc, url.authority())?,
         bytes: Bytes::of(bytes),
@@ -188,18 +186,16 @@ pub fn document_job(
     alloc: Global,
     agreements: &Agreements,
     partner: &Partner,
-    organization: &AsName,
-    id: &MessageId,
-    content: &Pieces,
+    entry: &OutEntry,
 ) -> Result<Job, StoreFault>
     ensures job { IfOk result (λ job. job
-        ≡ document_request agreements.now partner.now organization.now id.now content.now) }
+        ≡ document_request agreements.now partner.now entry.now.organization entry.now.id entry.now.content) }
     ensures address { IfOk result (λ job. IsAuthority job.authority) }
     ensures fault { IfErr result (λ f. (f ≡ fault.Memory) ⊎ (f ≡ fault.Refused)) }
 {
     let Some(url) = Url::parse(partner.url.as_str().as_bytes()) else {
         return Err(StoreFault::Refused);
     };
-    let job = job_to(alloc, &url, agreements, partner, organization, id, content)?;
+    let job = job_to(alloc, &url, agreements, partner, entry)?;
     Ok(job)
 }

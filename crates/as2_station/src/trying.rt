@@ -96,14 +96,7 @@ fn begin_found<R: Records>(
         return Ok(Err(reason));
     }
     let progress = tried(partner, entry, moment);
-    let job = document_job(
-        alloc,
-        agreements,
-        partner,
-        &entry.organization,
-        &entry.id,
-        &entry.content,
-    )?;
+    let job = document_job(alloc, agreements, partner, entry)?;
     records.set_out(entry.number, progress)?;
     Ok(Ok(job))
 }
