@@ -60,6 +60,7 @@ fn mic_for(outcome: Outcome, ask: &ReceiptAsk<'_>, content: &Pieces) -> Option<R
 }
 
 /// A head, and how it asks for a receipt.
+#[derive(Drop)]
 struct AskingHead<'a> {
     head: &'a Head,
     ask: ReceiptAsk<'a>,
