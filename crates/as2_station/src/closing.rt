@@ -15,7 +15,8 @@ ghost use Rattle.as2_station.specs.Steps.{Does, always};
 use crate::agreed::agreed_partner;
 use crate::receipts::{bears, evidence_of};
 use crate::said::{Became, Ended};
-use as2_agreement::{Agreements, Asked, Partner};
+use crate::terms::Terms;
+use as2_agreement::{Asked, Partner};
 use as2_exchange::{Attempt, Evidence, OutEntry, Refusal, StoreFault, TryAnswer};
 use as2_mdn::{Detail, read_report, verdict_pieces};
 use as2_mic::Pieces;
@@ -23,6 +24,14 @@ use as2_posts::{Opened, open_answer};
 use as2_records::{Progress, Records};
 use as2_text::{Head, Memory, Moment};
 use std::alloc::Global;
+
+/// An HTTP answer.
+#[derive(Drop)]
+struct HttpReply {
+    status: u16,
+    head: Head,
+    body: Pieces,
+}
 
 /// How a try of a document ends.
 #[derive(Drop)]
@@ -115,26 +124,26 @@ fn by_receipt(
 
 /// How a try ends by an HTTP answer.
 fn by_reply(
-    alloc: Global,
+    terms: &Terms<'_>,
     partner: &Partner,
     document: &OutEntry,
-    status: u16,
-    head: &Head,
-    body: Pieces,
-    moment: Moment,
+    reply: HttpReply,
 ) -> Result<End, Memory>
     requires terms { IsPartner partner.now }
     ensures { IfOk result (λ end. ended_document end document.now
-        ≡ closed_by partner.now (Reply status head.now body) moment document.now
-        (option_and_then (if_for document.now) (receipt_in_answer AllDigests (Reply status head.now body)))) }
+        ≡ closed_by partner.now (Reply reply.status reply.head reply.body) terms.now.moment document.now
+        (option_and_then (if_for document.now)
+        (receipt_in_answer AllDigests (Reply reply.status reply.head reply.body)))) }
 {
+    let HttpReply { status, head, body } = reply;
+    let moment = terms.moment;
     if !is_success(status) {
         return Ok(End::Failed(after_failure(partner, document, moment)));
     }
-    let Some(opened) = open_answer(head) else {
+    let Some(opened) = open_answer(&head) else {
         return Ok(without_receipt(partner, document, moment));
     };
-    match by_receipt(alloc, &opened, body, document, moment)? {
+    match by_receipt(terms.alloc, &opened, body, document, moment)? {
         Some(end) => Ok(end),
         None => Ok(without_receipt(partner, document, moment)),
     }
@@ -142,21 +151,20 @@ fn by_reply(
 
 /// How the open try of the document ends.
 fn end_of(
-    alloc: Global,
+    terms: &Terms<'_>,
     partner: &Partner,
     document: &OutEntry,
     answer: TryAnswer,
-    moment: Moment,
 ) -> Result<End, Memory>
     requires terms { IsPartner partner.now }
     ensures { IfOk result (λ end. ended_document end document.now
-        ≡ closed_by partner.now answer moment document.now
+        ≡ closed_by partner.now answer terms.now.moment document.now
         (option_and_then (if_for document.now) (receipt_in_answer AllDigests answer))) }
 {
     match answer {
-        TryAnswer::NoAnswer => Ok(End::Failed(after_failure(partner, document, moment))),
+        TryAnswer::NoAnswer => Ok(End::Failed(after_failure(partner, document, terms.moment))),
         TryAnswer::Reply { status, head, body } => {
-            by_reply(alloc, partner, document, status, &head, body, moment)
+            by_reply(terms, partner, document, HttpReply { status, head, body })
         }
     }
 }
@@ -192,19 +200,18 @@ fn end_try<R: Records>(records: &mut R, entry: &OutEntry, end: End) -> Result<En
 /// Takes the outcome of a try of this document, unless none is open.
 fn close_found<R: Records>(
     records: &mut R,
-    alloc: Global,
-    agreements: &Agreements,
+    terms: &Terms<'_>,
     entry: &OutEntry,
     answer: TryAnswer,
-    moment: Moment,
 ) -> Result<Ended, StoreFault>
     requires open { (R.shows records.old).IsClean → IsTrue (R.shows records.old).is_open }
     ensures taken { Does
-        (λ s. Some (on_document s entry.now.number (closed_document agreements.now AllDigests answer moment)))
+        (λ s. Some (on_document s entry.now.number
+        (closed_document terms.now.agreements.now AllDigests answer terms.now.moment)))
         (λ s. document s entry.now.number ≡ Some entry.now) (true
         ≡ true) said_to_outcome (R.shows records.old) (R.shows records.new) result }
 {
-    let partner = match agreed_partner(agreements, &entry.organization, &entry.partner) {
+    let partner = match agreed_partner(terms.agreements, &entry.organization, &entry.partner) {
         Ok(partner) => partner,
         Err(reason) => return Ok(Err(reason)),
     };
@@ -214,25 +221,24 @@ fn close_found<R: Records>(
     if entry.attempt.is_idle() {
         return Ok(Err(Refusal::NoOpenTry));
     }
-    let end = end_of(alloc, partner, entry, answer, moment)?;
+    let end = end_of(terms, partner, entry, answer)?;
     end_try(records, entry, end)
 }
 
 /// Takes the outcome of a try of the document of this number.
-pub fn close<R: Records>(
+pub(crate) fn close<R: Records>(
     records: &mut R,
-    alloc: Global,
-    agreements: &Agreements,
+    terms: &Terms<'_>,
     number: u64,
     answer: TryAnswer,
-    moment: Moment,
 ) -> Result<Ended, StoreFault>
-    ensures taken { Does (λ s. Some (on_document s number (closed_document agreements.now AllDigests answer moment)))
+    ensures taken { Does (λ s. Some (on_document s number
+        (closed_document terms.now.agreements.now AllDigests answer terms.now.moment)))
         always
         (true ≡ true) said_to_outcome (R.shows records.old) (R.shows records.new) result }
 {
-    match records.find_out(alloc, number)? {
-        Some(document) => close_found(records, alloc, agreements, &document, answer, moment),
+    match records.find_out(terms.alloc, number)? {
+        Some(document) => close_found(records, terms, &document, answer),
         None => Ok(Err(Refusal::NoSuchNumber)),
     }
 }

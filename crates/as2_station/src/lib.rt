@@ -12,6 +12,7 @@ mod resending;
 mod said;
 mod station;
 mod submitting;
+mod terms;
 mod texts;
 mod ticking;
 mod trying;

@@ -12,6 +12,7 @@ ghost use Rattle.as2_station.specs.Steps.{Does, always};
 use crate::agreed::agreed_partner;
 use crate::closing::is_success;
 use crate::said::{Became, Begun, Ended};
+use crate::terms::Terms;
 use crate::trying::is_early;
 use as2_agreement::{Agreements, Partner};
 use as2_exchange::{Attempt, InEntry, ReceiptStage, Refusal, StoreFault, TryAnswer};
@@ -190,19 +191,18 @@ fn close_found<R: Records>(
 }
 
 /// Takes the outcome of a try of the receipt of the entry of this number.
-pub fn close_receipt<R: Records>(
+pub(crate) fn close_receipt<R: Records>(
     records: &mut R,
-    alloc: Global,
-    agreements: &Agreements,
+    terms: &Terms<'_>,
     number: u64,
     answer: TryAnswer,
-    moment: Moment,
 ) -> Result<Ended, StoreFault>
-    ensures taken { Does (λ s. Some (on_received s number (closed_receipt agreements.now answer moment))) always (true
-        ≡ true) said_to_outcome (R.shows records.old) (R.shows records.new) result }
+    ensures taken { Does
+        (λ s. Some (on_received s number (closed_receipt terms.now.agreements.now answer terms.now.moment)))
+        always (true ≡ true) said_to_outcome (R.shows records.old) (R.shows records.new) result }
 {
-    match records.find_in_number(alloc, number)? {
-        Some(entry) => close_found(records, agreements, &entry, &answer, moment),
+    match records.find_in_number(terms.alloc, number)? {
+        Some(entry) => close_found(records, terms.agreements, &entry, &answer, terms.moment),
         None => Ok(Err(Refusal::NoSuchNumber)),
     }
 }

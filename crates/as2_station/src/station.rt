@@ -25,6 +25,7 @@ use crate::said::{
     said_to_submit,
 };
 use crate::submitting::submit;
+use crate::terms::Terms;
 use crate::ticking::tick;
 use crate::trying::begin;
 use crate::viewing;
@@ -71,23 +72,21 @@ impl<R: Records> Station<R> {
     /// Takes a post whose head is in order as far as its content type.
     fn take(
         &mut self,
-        alloc: Global,
-        agreements: &Agreements,
+        terms: &Terms<'_>,
         opened: Opened<'_>,
         head: &Head,
         body: Pieces,
-        moment: Moment,
     ) -> Result<HttpAnswer, StoreFault>
-        ensures taken { TakesPost R.shows agreements.now moment (reading_by AllDigests opened.entry head.now body)
-            always self.old self.new result }
+        ensures taken { TakesPost R.shows terms.now.agreements.now terms.now.moment
+            (reading_by AllDigests opened.entry head.now body) always self.old self.new result }
         ensures whole { ClashesWhole Http (reading_by AllDigests opened.entry head.now body) (R.shows self.old)
             (R.shows self.new) result }
     {
         if opened.is_report() {
-            return receive(&mut self.records, alloc, &opened, body, moment);
+            return receive(&mut self.records, terms, &opened, body);
         }
-        match document(alloc, opened, head, body)? {
-            Ok(posted) => record(&mut self.records, alloc, agreements, posted, moment),
+        match document(terms.alloc, opened, head, body)? {
+            Ok(posted) => record(&mut self.records, terms, posted),
             Err(line) => Ok(line.answer()),
         }
     }
@@ -108,7 +107,14 @@ impl<R: Records> Station<R> {
         ensures of_head { TakesHead agreements.now (Post head.now body moment) (λ a. a) self.old self.new result }
     {
         match open(agreements, head) {
-            Ok(opened) => self.take(alloc, agreements, opened, head, body, moment),
+            Ok(opened) => {
+                let terms = Terms {
+                    alloc,
+                    agreements,
+                    moment,
+                };
+                self.take(&terms, opened, head, body)
+            }
             Err(line) => Ok(line.answer()),
         }
     }
@@ -164,23 +170,14 @@ impl<R: Records> Station<R> {
         ensures taken { TakesEvent agreements.now (outcome_event what answer moment) said_to_outcome (R.shows self.old)
             (R.shows self.new) result }
     {
+        let terms = Terms {
+            alloc,
+            agreements,
+            moment,
+        };
         match what {
-            Next::Receipt(number) => close_receipt(
-                &mut self.records,
-                alloc,
-                agreements,
-                number,
-                answer,
-                moment,
-            ),
-            Next::Document(number) => close(
-                &mut self.records,
-                alloc,
-                agreements,
-                number,
-                answer,
-                moment,
-            ),
+            Next::Receipt(number) => close_receipt(&mut self.records, &terms, number, answer),
+            Next::Document(number) => close(&mut self.records, &terms, number, answer),
         }
     }
 

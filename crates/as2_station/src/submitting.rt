@@ -41,21 +41,14 @@ fn refusal_of(
 }
 
 /// A document as it is taken in.
-fn new_document(
-    number: u64,
-    organization: AsName,
-    partner: AsName,
-    id: MessageId,
-    content: Pieces,
-    moment: Moment,
-) -> OutEntry
+fn new_document(number: u64, document: NewDocument, id: MessageId, moment: Moment) -> OutEntry
     ensures { result
         ≡ record {
           number = number;
-          organization = organization;
-          partner = partner;
+          organization = document.organization;
+          partner = document.partner;
           id = id;
-          content = content;
+          content = document.content;
           moment = moment;
           begun = false;
           tries = 0;
@@ -65,6 +58,11 @@ fn new_document(
           evidence = None;
         } }
 {
+    let NewDocument {
+        organization,
+        partner,
+        content,
+    } = document;
     OutEntry {
         number,
         organization,
@@ -99,16 +97,16 @@ pub fn submit<R: Records>(
         → submit_refusal agreements.now document.organization document.partner document.content ≡ Some reason
         → records.new ≡ records.old }
 {
-    let NewDocument {
-        organization,
-        partner,
-        content,
-    } = document;
-    if let Some(reason) = refusal_of(agreements, &organization, &partner, &content) {
+    if let Some(reason) = refusal_of(
+        agreements,
+        &document.organization,
+        &document.partner,
+        &document.content,
+    ) {
         return Ok(Err(reason));
     }
     let number = records.next_numbers()?.document;
     let id = out_id(alloc, agreements, number)?;
-    records.add_out(&new_document(number, organization, partner, id, content, moment))?;
+    records.add_out(&new_document(number, document, id, moment))?;
     Ok(Ok(number))
 }

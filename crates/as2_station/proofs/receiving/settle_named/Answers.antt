@@ -30,13 +30,13 @@ unfolding verdict
 returns-in_err-settle g c = record {
   taken = λ A.
       let d = c.args.document.now in
-      let r = receipt_by AllDigests c.args.opened.now c.args.receipt.now c.args.body in
+      let r = receipt_by AllDigests c.args.named.now.opened.now c.args.named.now.receipt.now c.args.body in
       let now = settled_as c.verdict_pieces-detail.result c.in_ok-evidence.evidence in
-      let same : now d ≡ settled_document c.args.moment r d = rw (c.verdict_pieces-detail.ensures, c.in_ok-evidence.ensures c.args.receipt.now) refl in
+      let same : now d ≡ settled_document c.args.terms.now.moment r d = rw (c.verdict_pieces-detail.ensures, c.in_ok-evidence.ensures c.args.named.now.receipt.now) refl in
       passed_on _ _ _ _ _ _ _ _ c.from_residual-in_err-settle.ensures.0 c.from_residual-in_err-settle.ensures.1
       (unwritten _ _ _ _ _ _ _ _ (http 200 Nothing)
       (λ s t stands named is counter.
-      settles s t c.args.moment r d _ _ stands named (sym (c.if-not-is_for.ensures c.args.body)) (sym c.if-is_some.ensures) (rw c.verdict_pieces-detail.ensures (verdict_range AllDigests c.args.receipt.now d.content)) same is)
+      settles s t c.args.terms.now.moment r d _ _ stands named (sym (c.if-not-is_for.ensures c.args.body)) (sym c.if-is_some.ensures) (rw c.verdict_pieces-detail.ensures (verdict_range AllDigests c.args.named.now.receipt.now d.content)) same is)
       (inr c.in_err-settle.ensures.fault)
       (λ s named full. never_full _ c.in_err-settle.ensures.fault full)
       c.in_err-settle.ensures.settled);
@@ -47,11 +47,11 @@ unfolding verdict
 returns g c = record {
   taken = λ A.
       let d = c.args.document.now in
-      let r = receipt_by AllDigests c.args.opened.now c.args.receipt.now c.args.body in
+      let r = receipt_by AllDigests c.args.named.now.opened.now c.args.named.now.receipt.now c.args.body in
       let now = settled_as c.verdict_pieces-detail.result c.in_ok-evidence.evidence in
-      let same : now d ≡ settled_document c.args.moment r d = rw (c.verdict_pieces-detail.ensures, c.in_ok-evidence.ensures c.args.receipt.now) refl in
+      let same : now d ≡ settled_document c.args.terms.now.moment r d = rw (c.verdict_pieces-detail.ensures, c.in_ok-evidence.ensures c.args.named.now.receipt.now) refl in
       rw c.taken-2.ensures (written _ _ _ _ _ _ _ _ _
       (λ s t stands named is counter.
-      settles s t c.args.moment r d _ _ stands named (sym (c.if-not-is_for.ensures c.args.body)) (sym c.if-is_some.ensures) (rw c.verdict_pieces-detail.ensures (verdict_range AllDigests c.args.receipt.now d.content)) same is)
+      settles s t c.args.terms.now.moment r d _ _ stands named (sym (c.if-not-is_for.ensures c.args.body)) (sym c.if-is_some.ensures) (rw c.verdict_pieces-detail.ensures (verdict_range AllDigests c.args.named.now.receipt.now d.content)) same is)
       c.in_ok-settle.ensures.settled);
 }
