@@ -50,7 +50,7 @@ takes_once A moment s r OnlyPost b t u x y _ _ = absurd x
 takes_once A moment s r NoPath b t u x y _ _ = absurd x
 
 responds_once : (A : AgreedValues) (moment : ℕ) (s : State) (r : Request) (m : Method) (at : Target) (x y : Response) (t u : State)
-    → RespondsTo m at A moment s r x Unsaid t → RespondsTo m at A moment s r y Unsaid u → IsSoundResponse x → IsSoundResponse y → (x ≡ y) × (t ≡ u)
+    → RespondsTo A moment m at s r x Unsaid t → RespondsTo A moment m at s r y Unsaid u → IsSoundResponse x → IsSoundResponse y → (x ≡ y) × (t ≡ u)
 responds_once A moment s r Post Station x y t u p q a b = takes_once A moment s r x y t u p q a b
 responds_once A moment s r Post OtherTarget x y t u p q a b = (p.0 ∙ sym q.0, p.1 ∙ sym q.1)
 responds_once A moment s r Head at x y t u p q a b = (p.0 ∙ sym q.0, p.1 ∙ sym q.1)

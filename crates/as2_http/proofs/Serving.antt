@@ -38,7 +38,7 @@ use Rattle.as2_http.proofs.Streaming.{answers_join, go_on_join}
 -- ---- a run of the machine
 
 event_then : (A : AgreedValues) (moment : ℕ) (s mid t : State) (r : Request) (x : Response) (m : Method) (at : Target) (more : Trace)
-    → RespondsTo m at A moment s r x Unsaid mid → Run A mid more t → Run A s (event_by m at moment (r, x) ++ more) t
+    → RespondsTo A moment m at s r x Unsaid mid → Run A mid more t → Run A s (event_by m at moment (r, x) ++ more) t
 event_then A moment s mid t r (response.Answered a) method.Post target.Station more p run = (mid, p.0, run)
 event_then A moment s mid t r (response.Failed f) method.Post target.Station more p run = (p.0, subst (λ (x : State). Run A x more t) p.1 run)
 event_then A moment s mid t r response.OnlyPost method.Post target.Station more p run = absurd p

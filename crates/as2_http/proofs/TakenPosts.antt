@@ -42,5 +42,5 @@ store_failed A moment r old new before after f taken head clean s rests =
 pub posts : (A : AgreedValues) (moment : ℕ) (s : State) (r : Request) (x : Response) (Safe : State → Type 0) (t : State) → r.method ≡ Post → r.target ≡ Station
     → RespondsToPost A moment s r x Safe t → Responds A moment s r x Safe t
 posts A moment s r x Safe t is_post is_station takes =
-    subst (λ (m : Method). RespondsTo m r.target A moment s r x Safe t) (sym is_post)
-    (subst (λ (at : Target). RespondsTo Post at A moment s r x Safe t) (sym is_station) takes)
+    subst (λ (m : Method). RespondsTo A moment m r.target s r x Safe t) (sym is_post)
+    (subst (λ (at : Target). RespondsTo A moment Post at s r x Safe t) (sym is_station) takes)

@@ -20,7 +20,7 @@ takes_unsaid A moment s r OnlyPost Safe t p = p
 takes_unsaid A moment s r NoPath Safe t p = p
 
 unsaid_by : (A : AgreedValues) (moment : ℕ) (s : State) (r : Request) (m : Method) (at : Target) (x : Response) (Safe : State → Type 0) (t : State)
-    → RespondsTo m at A moment s r x Safe t → RespondsTo m at A moment s r x Unsaid t
+    → RespondsTo A moment m at s r x Safe t → RespondsTo A moment m at s r x Unsaid t
 unsaid_by A moment s r Post Station x Safe t p = takes_unsaid A moment s r x Safe t p
 unsaid_by A moment s r Post OtherTarget x Safe t p = p
 unsaid_by A moment s r Head at x Safe t p = p

@@ -57,22 +57,23 @@ pub record IsSafe {M : Medium} (c : Standing M) (t : State) : Type 0 where
 abbrev pub Unsaid : State → Type 0
 Unsaid t = ⊤
 
--- the post is a step of the machine, and where it asks the records, the state that it leaves is safe; or there is a fault, which
--- changes nothing, and never stands in place of what the head decides
-abbrev pub RespondsToPost : AgreedValues → ℕ → State → Request → Response → (State → Type 0) → State → Type 0
-RespondsToPost A moment s r (Answered answer) Safe t =
-    (step A s (post_event r moment) ≡ Some (Http answer, t)) × (asks_store A (post_event r moment) ≡ true → Safe t)
-RespondsToPost A moment s r (Failed fault) Safe t = MayFail A s (post_event r moment) fault × (t ≡ s) × IsPastHead A r
-RespondsToPost A moment s r OnlyPost Safe t = ⊥
-RespondsToPost A moment s r NoPath Safe t = ⊥
+module _ (A : AgreedValues) (moment : ℕ) where
+  -- the post is a step of the machine, and where it asks the records, the state that it leaves is safe; or there is a fault, which
+  -- changes nothing, and never stands in place of what the head decides
+  abbrev pub RespondsToPost : State → Request → Response → (State → Type 0) → State → Type 0
+  RespondsToPost s r (Answered answer) Safe t =
+      (step A s (post_event r moment) ≡ Some (Http answer, t)) × (asks_store A (post_event r moment) ≡ true → Safe t)
+  RespondsToPost s r (Failed fault) Safe t = MayFail A s (post_event r moment) fault × (t ≡ s) × IsPastHead A r
+  RespondsToPost s r OnlyPost Safe t = ⊥
+  RespondsToPost s r NoPath Safe t = ⊥
 
--- a post to the station's path is an event; any other request changes nothing
-abbrev pub RespondsTo : Method → Target → AgreedValues → ℕ → State → Request → Response → (State → Type 0) → State → Type 0
-RespondsTo Post Station A moment s r response Safe t = RespondsToPost A moment s r response Safe t
-RespondsTo Post OtherTarget A moment s r response Safe t = (response ≡ NoPath) × (t ≡ s)
-RespondsTo Head target A moment s r response Safe t = (response ≡ OnlyPost) × (t ≡ s)
-RespondsTo OtherMethod target A moment s r response Safe t = (response ≡ OnlyPost) × (t ≡ s)
+  -- a post to the station's path is an event; any other request changes nothing
+  abbrev pub RespondsTo : Method → Target → State → Request → Response → (State → Type 0) → State → Type 0
+  RespondsTo Post Station s r response Safe t = RespondsToPost s r response Safe t
+  RespondsTo Post OtherTarget s r response Safe t = (response ≡ NoPath) × (t ≡ s)
+  RespondsTo Head target s r response Safe t = (response ≡ OnlyPost) × (t ≡ s)
+  RespondsTo OtherMethod target s r response Safe t = (response ≡ OnlyPost) × (t ≡ s)
 
--- at this moment and in the state s the request gets this response, and leaves t
-abbrev pub Responds : AgreedValues → ℕ → State → Request → Response → (State → Type 0) → State → Type 0
-Responds A moment s r response Safe t = RespondsTo r.method r.target A moment s r response Safe t
+  -- at this moment and in the state s the request gets this response, and leaves t
+  abbrev pub Responds : State → Request → Response → (State → Type 0) → State → Type 0
+  Responds s r response Safe t = RespondsTo r.method r.target s r response Safe t

@@ -93,12 +93,13 @@ pub record IsUntold (A : Agreements) (m : ℕ) (s : State) (last : Trace) (t : S
   pub missing : Text
   pub cut : turn_line turn.what turn.became ≡ text ++ missing
 
--- how sending ends in the state s: with which last events, which state is left, and what is still written
-abbrev pub SendingEnds : Agreements → ℕ → State → Trace → State → Text → Sent → Type 0
-SendingEnds A m s last t text sent.Done = (next s m ≡ None) × (t ≡ s) × (last ≡ []) × (text ≡ [])
-SendingEnds A m s last t text (sent.Refused reason) = SendingIsRefused A m s last t reason × (text ≡ [])
-SendingEnds A m s last t text (sent.Failed why) = SendingFails A m s last t why × (may_come why ≡ true) × (text ≡ [])
-SendingEnds A m s last t text sent.Unwritten = IsUntold A m s last t text
+module _ (A : Agreements) (m : ℕ) where
+  -- how sending ends in the state s: with which last events, which state is left, and what is still written
+  abbrev pub SendingEnds : State → Trace → State → Text → Sent → Type 0
+  SendingEnds s last t text sent.Done = (next s m ≡ None) × (t ≡ s) × (last ≡ []) × (text ≡ [])
+  SendingEnds s last t text (sent.Refused reason) = SendingIsRefused A m s last t reason × (text ≡ [])
+  SendingEnds s last t text (sent.Failed why) = SendingFails A m s last t why × (may_come why ≡ true) × (text ≡ [])
+  SendingEnds s last t text sent.Unwritten = IsUntold A m s last t text
 
 -- ---- all of it
 
@@ -120,17 +121,20 @@ pub record Sends (A : Agreements) (m : ℕ) (s t : State) (before after : Option
 
 -- ---- one turn
 
--- what is next begins, and the records rest on the state that it leaves, which lasts before its request goes over a link; or sending
--- ends with it, and nothing goes over a link
-abbrev pub BeginsTo : {M : Medium} → Agreements → ℕ → State → Next → Standing M → Result Job Sent → Type 0
-BeginsTo A m s what c (Ok job) = (mid : State) × BeginsTry A m s what job mid × c.Rests mid × IsSafe c mid
-BeginsTo A m s what c (Err end) = (last : Trace) × (t : State) × SendingEnds A m s last t [] end × c.Rests t × (exchanges last ≡ [])
+module _ (A : Agreements) (m : ℕ) where
+  -- what is next begins, and the records rest on the state that it leaves, which lasts before its request goes over a link; or sending
+  -- ends with it, and nothing goes over a link
+  abbrev pub BeginsTo : {M : Medium} → State → Next → Standing M → Result Job Sent → Type 0
+  BeginsTo s what c (Ok job) = (mid : State) × BeginsTry A m s what job mid × c.Rests mid × IsSafe c mid
+  BeginsTo s what c (Err end) = (last : Trace) × (t : State) × SendingEnds A m s last t [] end × c.Rests t × (exchanges last ≡ [])
 
--- the outcome of what has begun is taken, which leaves mid behind, and what this leaves lasts before its line is written; or
--- sending ends with it
-abbrev pub ClosesTo : {M : Medium} → Agreements → ℕ → State → Next → Exchange → State → Standing M → Result Became Sent → Type 0
-ClosesTo A m s what x mid c (Ok became) = (t : State) × (step A mid (outcome_event what x.got m) ≡ Some (answer_of became, t)) × c.Rests t × IsSafe c t
-ClosesTo A m s what x mid c (Err end) = (last : Trace) × (t : State) × SendingEnds A m s last t [] end × c.Rests t × (exchanges last ≡ x ∷ [])
+  -- the outcome of what has begun is taken, which leaves mid behind, and what this leaves lasts before its line is written; or
+  -- sending ends with it
+  abbrev pub ClosesTo : {M : Medium} → State → Next → Exchange → State → Standing M → Result Became Sent → Type 0
+  ClosesTo s what x mid c (Ok became) =
+      (t : State) × (step A mid (outcome_event what x.got m) ≡ Some (answer_of became, t)) × c.Rests t × IsSafe c t
+  ClosesTo s what x mid c (Err end) =
+      (last : Trace) × (t : State) × SendingEnds A m s last t [] end × c.Rests t × (exchanges last ≡ x ∷ [])
 
 -- a turn is taken whole, with its line, its hint and its exchange; or sending ends with it, and nothing is hinted
 abbrev pub TurnsTo : {M : Medium} {U : Type 0} → Agreements → ℕ → State → Standing M → Option (List ℕ) → Option (List ℕ)
