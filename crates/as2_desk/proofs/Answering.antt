@@ -76,10 +76,12 @@ event_may q is tell (Ok a) told it may = answer_may q (tell a) told it
 event_may q is tell (Err f) told it may = subst (FaultMayCome q) (sym it) (elim may [ inl full ↦ inl (full, is) | inr other ↦ inr other ])
 
 -- a submission that is refused is told so
-pub submission_refused : {H : Type 0} (A : AgreedValues) (q : QuestionInHand) (from to content : List ℕ) (m : ℕ) (old new : H) (r : Result (Result ℕ Refusal) StoreFault) (told : ToPrint) → RefusesSubmit A (event.Submit from to content m) Err old new r
+pub submission_refused : {H : Type 0} (A : AgreedValues) (q : QuestionInHand) (from to content : List ℕ) (m : ℕ) (old new : H)
+    (r : Result (Result ℕ Refusal) StoreFault) (told : ToPrint) → RefusesSubmit A (event.Submit from to content m) Err old new r
     → IsToldOf q (said_as said_to_submit r) told → (reason : Refusal) → submit_refusal A from to content ≡ Some reason → told ≡ Err (Station reason)
 submission_refused A q from to content m old new r told refuses it reason is =
-    let said : Some (Err (Station reason)) ≡ Some told = subst (λ (x : Result (Result ℕ Refusal) StoreFault). IsToldOf q (said_as said_to_submit x) told) (refuses.answer from to content m reason refl is) it in
+    let said : Some (Err (Station reason)) ≡ Some told =
+    subst (λ (x : Result (Result ℕ Refusal) StoreFault). IsToldOf q (said_as said_to_submit x) told) (refuses.answer from to content m reason refl is) it in
     cc
 
 abbrev pub TellsFrom : {M : Medium} → AgreedValues → ℕ → QuestionInHand → Standing M → Standing M → ToPrint → Type 0
@@ -108,7 +110,8 @@ module _ {M : Medium} (A : AgreedValues) (m : ℕ) (q : QuestionInHand) (old new
   looked text view is (Err f) reads may = λ s rests. (s, reads.same clean s rests, (refl, λ full. absurd (never_full f may full)))
 
   resend_tells : (s t : State) (p : QuestionInHand) (told : ToPrint) → told_of_resend p ≡ Some told → told_by A m q s ≡ Some (told, t) → Tells A m q s t told
-  resend_tells s t (question.Resend n) told is by = let same : Ok (resent_line n) ≡ told = cc in subst (Tells A m q s t) same (subst (λ (y : ToPrint). told_by A m q s ≡ Some (y, t)) (sym same) by)
+  resend_tells s t (question.Resend n) told is by = let same : Ok (resent_line n) ≡ told =
+      cc in subst (Tells A m q s t) same (subst (λ (y : ToPrint). told_by A m q s ≡ Some (y, t)) (sym same) by)
   resend_tells s t (question.Submit d) told is by = absurd cc
   resend_tells s t question.Tick told is by = absurd cc
   resend_tells s t (question.List filter idle format) told is by = absurd cc
@@ -117,9 +120,12 @@ module _ {M : Medium} (A : AgreedValues) (m : ℕ) (q : QuestionInHand) (old new
   resend_tells s t (question.Fetch n) told is by = absurd cc
 
   answered_tells : (s t : State) (x : Answer) (told : ToPrint) → told_of q x ≡ Some told → told_by A m q s ≡ Some (told, t) → Tells A m q s t told
-  answered_tells s t (answer.Submitted n) told is by = let same : Ok (number_line n) ≡ told = cc in subst (Tells A m q s t) same (subst (λ (y : ToPrint). told_by A m q s ≡ Some (y, t)) (sym same) by)
-  answered_tells s t (answer.Ticked n) told is by = let same : Ok (number_line n) ≡ told = cc in subst (Tells A m q s t) same (subst (λ (y : ToPrint). told_by A m q s ≡ Some (y, t)) (sym same) by)
-  answered_tells s t (answer.Refused reason) told is by = let same : Err (Station reason) ≡ told = cc in subst (Tells A m q s t) same (subst (λ (y : ToPrint). told_by A m q s ≡ Some (y, t)) (sym same) by)
+  answered_tells s t (answer.Submitted n) told is by = let same : Ok (number_line n) ≡ told =
+      cc in subst (Tells A m q s t) same (subst (λ (y : ToPrint). told_by A m q s ≡ Some (y, t)) (sym same) by)
+  answered_tells s t (answer.Ticked n) told is by = let same : Ok (number_line n) ≡ told =
+      cc in subst (Tells A m q s t) same (subst (λ (y : ToPrint). told_by A m q s ≡ Some (y, t)) (sym same) by)
+  answered_tells s t (answer.Refused reason) told is by = let same : Err (Station reason) ≡ told =
+      cc in subst (Tells A m q s t) same (subst (λ (y : ToPrint). told_by A m q s ≡ Some (y, t)) (sym same) by)
   answered_tells s t (answer.Http h) told is by = absurd cc
   answered_tells s t (answer.Job j) told is by = absurd cc
   answered_tells s t (answer.Settled d) told is by = absurd cc
@@ -133,8 +139,16 @@ module _ {M : Medium} (A : AgreedValues) (m : ℕ) (q : QuestionInHand) (old new
       → (tell : X → Answer) (r : Result X StoreFault) (told : ToPrint) → IsToldOf q (said_as tell r) told
       → TakesEvent A e tell old new r → TellsFrom A m q old new told
   stepped e is tell (Ok a) told it takes = λ s rests.
-      let left = takes.does.answered clean s rests tt in
-      (left.next, left.rests, answered_tells s left.next (tell a) told it (is s ∙ ap (told_by_step q) left.step ∙ ap (option_map (λ (x : ToPrint). (x, left.next))) it))
+      let left = takes.does.answered clean s rests tt in (
+        left.next,
+        left.rests,
+        answered_tells s left.next (tell a) told it
+            (is s ∙ ap (told_by_step q) left.step ∙ ap (option_map (λ (x : ToPrint). (x, left.next))) it),
+      )
   stepped e is tell (Err f) told it takes = λ s rests.
-      let left = takes.does.failed clean s rests tt in
-      (s, left.0, subst (Tells A m q s s) (sym it) (refl, λ full. let none : step A s e ≡ None = left.1 (let is : f ≡ Full = cc in is) in is s ∙ ap (told_by_step q) none))
+      let left = takes.does.failed clean s rests tt in (
+        s,
+        left.0,
+        subst (Tells A m q s s) (sym it)
+            (refl, λ full. let none : step A s e ≡ None = left.1 (let is : f ≡ Full = cc in is) in is s ∙ ap (told_by_step q) none),
+      )

@@ -40,7 +40,8 @@ module _ {L : Type 0} (ended : L → Option ℕ → Trace → Served → L → T
   serves_more [] end l k m s mid t same one = (
     m,
     t,
-    subst (λ (x : L). ServesOne A given (λ trace. ended x given trace end m) s t) same.0 (subst (λ (x : State). ServesOne A given (λ trace. ended k given trace end m) x t) same.1 one),
+    subst (λ (x : L). ServesOne A given (λ trace. ended x given trace end m) s t) same.0
+        (subst (λ (x : State). ServesOne A given (λ trace. ended k given trace end m) x t) same.1 one),
     (refl, refl),
   )
   serves_more (e ∷ ends) end l k m s mid t each one = (each.0, each.1, each.2, serves_more ends end each.0 k m each.1 mid t each.3 one)
@@ -55,7 +56,15 @@ module _ {L : Type 0} (ended : L → Option ℕ → Trace → Served → L → T
     pub lines : WritesWhole (written_of sink first now) (connection_lines ends)
 
   pub none_served : {M : Medium} {W : Type 0} (sink : Ghosts W) (c : Standing M) (l : L) (first : W) → HasServed sink 0 c c l l first first
-  none_served sink c l first = record { clean = λ h. h; ends = []; each = refl; all = refl; led = λ clean s rests. (s, rests, (refl, refl)); lines = (Appends-nil (sink.written first), refl) }
+  none_served sink c l first =
+      record {
+        clean = λ h. h;
+        ends = [];
+        each = refl;
+        all = refl;
+        led = λ clean s rests. (s, rests, (refl, refl));
+        lines = (Appends-nil (sink.written first), refl);
+      }
 
   module _ {M : Medium} {W : Type 0} (sink : Ghosts W) (n : ℕ) (old mid new : Standing M) (l k m : L) (w x y : W)
       (so_far : HasServed sink n old mid l k w x) (clean : new.IsClean → mid.IsClean) where
@@ -108,7 +117,8 @@ module _ {L : Type 0} (ended : L → Option ℕ → Trace → Served → L → T
         part = next.line.1.part;
         missing = next.line.1.missing;
         cut = next.line.1.cut;
-        written = Appends-trans (sink.written w) (sink.written x) (sink.written y) (connection_lines so_far.ends) next.line.1.part so_far.lines.0 next.line.1.appended;
+        written = Appends-trans (sink.written w) (sink.written x) (sink.written y)
+            (connection_lines so_far.ends) next.line.1.part so_far.lines.0 next.line.1.appended;
       };
     }
 
@@ -129,7 +139,8 @@ module _ {L : Type 0} (ended : L → Option ℕ → Trace → Served → L → T
       → HasServed sink n old new l m w x
       → ServesConnections old new (λ ends. EndsEach ended given l ends m) (λ ends s t. ServesEach ended given A ends l s m t)
       (λ ends. (length ends ≡ count) × WritesWhole (written_of sink w x) (connection_lines ends))
-  all_served sink n count old new l m w x is so_far = record { clean = so_far.clean; ends = so_far.ends; ended = so_far.each; led = so_far.led; lines = (so_far.all ∙ is, so_far.lines) }
+  all_served sink n count old new l m w x is so_far =
+      record { clean = so_far.clean; ends = so_far.ends; ended = so_far.each; led = so_far.led; lines = (so_far.all ∙ is, so_far.lines) }
 
 -- ---- what is said of them
 
@@ -140,9 +151,11 @@ pub fails_behind : (stop : Stop) (address : List ℕ) (errors : WriterSeen) (ran
 fails_behind Unwritten address errors ran told is = absurd (let bad : status_refused ≡ status_failed = sym told.ended ∙ is in omega (arith, bad))
 fails_behind (Unreadable fault) address errors ran told is = (open_fault.Store fault, address, told)
 
-module _ {M : Medium} (count : ℕ) (known : Option State) (o : Outcome) (old new : Standing M) (Ended : List Served → Type 0) (Led : List Served → State → State → Type 0)
+module _ {M : Medium} (count : ℕ) (known : Option State) (o : Outcome) (old new : Standing M) (Ended : List Served → Type 0)
+    (Led : List Served → State → State → Type 0)
     (l : ListenerSeen) (ran : Ran) (address : List ℕ) (stood : IfSome known (λ s. new.IsClean × old.Rests s)) (left : (t : State) → new.Rests t → o.Left t)
-    (awaited : (ends : List Served) → Ended ends → l.Awaited address ends) (led : (ends : List Served) (s t : State) → Led ends s t → l.Led address ends s t) where
+    (awaited : (ends : List Served) → Ended ends → l.Awaited address ends)
+    (led : (ends : List Served) (s t : State) → Led ends s t → l.Led address ends s t) where
   awaits : (Lines : List Served → Type 0) (k : Option State) → IfSome k (λ s. new.IsClean × old.Rests s) → (all : ServesConnections old new Ended Led Lines)
       → AwaitsFrom k o.Left l address all.ends
   awaits Lines None none all = awaited all.ends all.ended
@@ -153,7 +166,8 @@ module _ {M : Medium} (count : ℕ) (known : Option State) (o : Outcome) (old ne
   AllLines ends = (length ends ≡ count) × WritesWhole o.output (connection_lines ends)
 
   pub all_told : ServesConnections old new Ended Led AllLines → Ends status_done (listening_line address) o.errors ran → ServesCount count known o l ran
-  all_told all told = inr (inl (record { address = address; ends = all.ends; awaits = awaits AllLines known stood all; all = all.lines.0; lines = all.lines.1; told = told }))
+  all_told all told = inr (inl
+      (record { address = address; ends = all.ends; awaits = awaits AllLines known stood all; all = all.lines.0; lines = all.lines.1; told = told }))
 
   -- .. or no more were served
   abbrev pub SomeLines : Stop → List Served → Type 0

@@ -23,15 +23,18 @@ pub each_left : {A : Type 0} (last : Option A) (Clean : Type 0) (Rests : A → S
 each_left None Clean Rests Keeps Later kept f = tt
 each_left (Some l) Clean Rests Keeps Later kept f = λ clean t rests. f t (kept clean t rests)
 
-module _ {A : Type 0} {M : Medium} (shows : A → Standing M) (agreements : AgreedValues) (options : RunOptions) (w : Work) (o : Observation) (stored : StoresSeen) (ran : Ran) where
+module _ {A : Type 0} {M : Medium} (shows : A → Standing M) (agreements : AgreedValues) (options : RunOptions) (w : Work) (o : Observation)
+    (stored : StoresSeen) (ran : Ran) where
   -- no records could be opened, and that was told
   abbrev pub Failed : Option A → Result A OpenFault → Type 0
-  Failed last r = IfErr r (λ fault. (last ≡ None) × o.filing.Untouched × o.Unasked × o.input.Untouched × o.outcome.output.Untouched × EndsRefused (Store fault) o.outcome.errors ran)
+  Failed last r = IfErr r (λ fault. (last ≡ None) × o.filing.Untouched × o.Unasked × o.input.Untouched × o.outcome.output.Untouched
+      × EndsRefused (Store fault) o.outcome.errors ran)
 
   -- the work was done over records that were opened, and they were given back
   abbrev pub Done : Option A → Result A OpenFault → Type 0
   Done last r = IfOk r (λ opened. IsSomeAnd last (λ l. ((shows l).IsClean → (shows opened).IsClean)
-      × ((known : Option State) → IfSome known (λ s. (shows l).IsClean × (shows opened).Rests s) → DoesWork agreements options.moment w known (observing o (λ t. (shows l).Rests t)) ran)))
+      × ((known : Option State) → IfSome known (λ s. (shows l).IsClean × (shows opened).Rests s)
+      → DoesWork agreements options.moment w known (observing o (λ t. (shows l).Rests t)) ran)))
 
   -- over new records in memory
   pub goes_in_memory : (last : Option A) (r : Result A OpenFault) → BeginsNew shows options.first r → Failed last r → Done last r
@@ -55,7 +58,15 @@ module _ {A : Type 0} {M : Medium} (shows : A → Standing M) (agreements : Agre
       → IfSome last (λ l. Clean → (shows l).IsClean) → IfSome last (λ l. Clean → (t : State) → (shows l).Rests t → o.outcome.Left t)
       → Goes agreements options (Ok w) o stored ran
   goes_kept last (Err fault) Clean Keeps before now found failed done same counted unopened opened begins clean left =
-      inl (unopened (omega (arith, counted)), (same failed.0).0, failed.1, failed.2, failed.3, failed.4, record { fault = fault; cause = (same failed.0).1; told = failed.5 })
+      inl (
+        unopened (omega (arith, counted)),
+        (same failed.0).0,
+        failed.1,
+        failed.2,
+        failed.3,
+        failed.4,
+        record { fault = fault; cause = (same failed.0).1; told = failed.5 },
+      )
   goes_kept None (Ok records) Clean Keeps before now found failed done same counted unopened opened begins clean left = absurd done
   goes_kept (Some l) (Ok records) Clean Keeps before now found failed done same counted unopened opened begins clean left = inr (
     opened counted,

@@ -36,7 +36,13 @@ said_behind g a b d xs ys false true said counted more none = absurd (let bad : 
 said_behind g a b d xs ys false false said counted more none =
     subst (λ (e : _). WritesIf false (written_of g a e) (xs ++ ys)) (sym (none refl).1) (
       said.0,
-      record { part = said.1.part; missing = said.1.missing ++ ys; cut = ap (λ (l : List ℕ). l ++ ys) said.1.cut ∙ append_assoc said.1.part said.1.missing ys; appended = said.1.appended },
+      record {
+        part = said.1.part;
+        missing = said.1.missing ++ ys;
+        cut = ap (λ (l : List ℕ). l ++ ys) said.1.cut
+            ∙ append_assoc said.1.part said.1.missing ys;
+        appended = said.1.appended;
+      },
     )
 
 -- a refusal behind what was said before

@@ -20,10 +20,27 @@ module _ (count : ℕ) (known : Option State) (o : Outcome) (Left : State → Ty
   awaits_left address ends (Some s) later it = (it.0, later it.0 it.1, it.2)
 
   serves_left : ServesCount count known (leaving o Left) l ran → ServesCount count known o l ran
-  serves_left (inl never) = inl (record { left = both_known _ _ _ known again never.left (λ s later left. later s left); unwritten = never.unwritten; told = never.told })
-  serves_left (inr (inl all)) = inr (inl (record { address = all.address; ends = all.ends; awaits = awaits_left all.address all.ends known again all.awaits; all = all.all; lines = all.lines; told = all.told }))
+  serves_left (inl never) =
+      inl (record { left = both_known _ _ _ known again never.left (λ s later left. later s left); unwritten = never.unwritten; told = never.told })
+  serves_left (inr (inl all)) =
+      inr (inl (record {
+        address = all.address;
+        ends = all.ends;
+        awaits = awaits_left all.address all.ends known again all.awaits;
+        all = all.all;
+        lines = all.lines;
+        told = all.told;
+      }))
   serves_left (inr (inr some)) =
-      inr (inr (record { address = some.address; ends = some.ends; awaits = awaits_left some.address some.ends known again some.awaits; within = some.within; stop = some.stop; lines = some.lines; told = some.told }))
+      inr (inr (record {
+        address = some.address;
+        ends = some.ends;
+        awaits = awaits_left some.address some.ends known again some.awaits;
+        within = some.within;
+        stop = some.stop;
+        lines = some.lines;
+        told = some.told;
+      }))
 
 -- what is observed, with another state that is left
 abbrev pub observing : Observation → (State → Type 0) → Observation
@@ -33,16 +50,53 @@ observing o Left = record o { outcome = leaving o.outcome Left }
 pub carried_left : (A : AgreedValues) (m : ℕ) (c : CommandInHand) (known : Option State) (o : Observation) (Left : State → Type 0) (ran : Ran)
     → SaysAgain known Left o.outcome.Left → CarriesOut A m c known (observing o Left) ran → CarriesOut A m c known o ran
 carried_left A m (command.Post logs) known o Left ran again it = (it.0, posts_left A m known o.input o.outcome Left ran again it.1)
-carried_left A m (command.Ask q) known o Left ran again it =
-    (it.0, it.1, record { told = it.2.told; refused = it.2.refused; fault = it.2.fault; tells = both_known _ _ _ known again it.2.tells (λ s later tells. (tells.0, later tells.0 tells.1, tells.2)); by_history = both_known _ _ _ known again it.2.by_history (λ s later by. (by.0, later by.0 by.1, by.2)); prints = it.2.prints })
-carried_left A m (command.Send waits) known o Left ran again it =
-    (it.0, record { end = it.1.end; sends = both_known _ _ _ known again it.1.sends (λ s later sends. (sends.0, later sends.0 sends.1, sends.2)); unwritten = it.1.unwritten; sound = it.1.sound; told = it.1.told })
-carried_left A m (command.Serve serving) known o Left ran again it = (it.0, serves_left serving.count known o.outcome Left (o.listening A serving) ran again it.1)
+carried_left A m (command.Ask q) known o Left ran again it = (
+  it.0,
+  it.1,
+  record {
+    told = it.2.told;
+    refused = it.2.refused;
+    fault = it.2.fault;
+    tells = both_known _ _ _ known again it.2.tells (λ s later tells. (tells.0, later tells.0 tells.1, tells.2));
+    by_history =
+        both_known _ _ _ known again it.2.by_history (λ s later by. (by.0, later by.0 by.1, by.2));
+    prints = it.2.prints;
+  },
+)
+carried_left A m (command.Send waits) known o Left ran again it = (
+  it.0,
+  record {
+    end = it.1.end;
+    sends = both_known _ _ _ known again it.1.sends (λ s later sends. (sends.0, later sends.0 sends.1, sends.2));
+    unwritten = it.1.unwritten;
+    sound = it.1.sound;
+    told = it.1.told;
+  },
+)
+carried_left A m (command.Serve serving) known o Left ran again it =
+    (it.0, serves_left serving.count known o.outcome Left (o.listening A serving) ran again it.1)
 
 pub does_left : (A : AgreedValues) (m : ℕ) (w : Work) (known : Option State) (o : Observation) (Left : State → Type 0) (ran : Ran)
     → SaysAgain known Left o.outcome.Left → DoesWork A m w known (observing o Left) ran → DoesWork A m w known o ran
 does_left A m (At c) known o Left ran again it = (it.0, carried_left A m c known o Left ran again it.1)
-does_left A m (Verify format) known o Left ran again it =
-    (it.0, it.1, it.2, record { came = it.3.came; fault = it.3.fault; audits = both_known _ _ _ known again it.3.audits (λ s later audits. (later s audits.0, audits.1)); prints = it.3.prints })
-does_left A m (GatherEvidence wanted) known o Left ran again it =
-    (it.0, it.1, record { came = it.2.came; fault = it.2.fault; reads = both_known _ _ _ known again it.2.reads (λ s later reads. (later s reads.0, reads.1)); makes = it.2.makes })
+does_left A m (Verify format) known o Left ran again it = (
+  it.0,
+  it.1,
+  it.2,
+  record {
+    came = it.3.came;
+    fault = it.3.fault;
+    audits = both_known _ _ _ known again it.3.audits (λ s later audits. (later s audits.0, audits.1));
+    prints = it.3.prints;
+  },
+)
+does_left A m (GatherEvidence wanted) known o Left ran again it = (
+  it.0,
+  it.1,
+  record {
+    came = it.2.came;
+    fault = it.2.fault;
+    reads = both_known _ _ _ known again it.2.reads (λ s later reads. (later s reads.0, reads.1));
+    makes = it.2.makes;
+  },
+)

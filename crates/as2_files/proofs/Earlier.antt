@@ -25,7 +25,8 @@ use Rattle.as2_files.specs.Earlier.{IsEarlier}
 pub each_opens : {C E : Type 0} (shown : C → Connected) (image : Image) (r : Result C E)
     → IfOk r (λ c. HasCleanDisk (shown c) → Opens (shown c) × IsLive (shown c)) → IfOk r (λ c. HasCleanDisk (shown c) → FindsIn image (shown c))
     → IfOk r (λ c. HasCleanDisk (shown c) → (layout : Layout) (s : State) → HoldsAs layout image s → RestsAs layout (shown c) s)
-each_opens shown image (Ok c) opened finds = λ clean layout s held. let it = opened clean in rests_held_as layout (shown c) image s it.0 it.1 (finds clean).holds held
+each_opens shown image (Ok c) opened finds = λ clean layout s held. let it =
+    opened clean in rests_held_as layout (shown c) image s it.0 it.1 (finds clean).holds held
 each_opens shown image (Err e) opened finds = tt
 
 -- ---- what is counted, and given back

@@ -99,14 +99,16 @@ last_once : (r q : Request) → r ≡ q → r.last ≡ true → q.last ≡ false
 last_once r q same one two = true_is_not_false (sym one ∙ ap (λ (x : Request). x.last) same ∙ two)
 
 -- the first of both are one, and the others begin in one state and one text
-record First (A : AgreedValues) (moment : ℕ) (s u : State) (x y : RequestAndResponse) (mid : State) (reply after : List ℕ) (later : List RequestAndResponse) (text same behind : List ℕ) : Type 0 where
+record First (A : AgreedValues) (moment : ℕ) (s u : State) (x y : RequestAndResponse) (mid : State) (reply after : List ℕ)
+    (later : List RequestAndResponse) (text same behind : List ℕ) : Type 0 where
   pub request : x.0 ≡ y.0
   pub exchange : x ≡ y
   pub rest : List ℕ
   pub replies : same ≡ reply ++ rest
   pub others : AnswersAll A moment mid after later u rest behind
 
-first_one : (A : AgreedValues) (moment : ℕ) (s t u : State) (text replies same rest behind : List ℕ) (x y : RequestAndResponse) (more later : List RequestAndResponse)
+first_one : (A : AgreedValues) (moment : ℕ) (s t u : State) (text replies same rest behind : List ℕ) (x y : RequestAndResponse)
+    (more later : List RequestAndResponse)
     → (a : AnswersAll A moment s text (x ∷ more) t replies rest)
     → AnswersAll A moment s text (y ∷ later) u same behind → IsSoundResponse x.1 → IsSoundResponse y.1
     → First A moment s u x y a.0 a.1 a.2 later text same behind
@@ -116,13 +118,15 @@ first_one A moment s t u text replies same rest behind x y more later a b sound 
     let gets = responds_once A moment s x.0 x.0.method x.0.target x.1 y.1 a.0 b.0 a.4.responds other sound ok in
     let reply : a.1 ≡ b.1 =
     replies_in_one_way moment (form_of x.0) (http_answer x.1) a.1 b.1 a.4.replies
-    (subst (λ (r : Request). IsReply moment (form_of r) (http_answer x.1) b.1) (sym one.0) (subst (λ (z : Response). IsReply moment (form_of y.0) (http_answer z) b.1) (sym gets.0) b.4.replies)) in
+    (subst (λ (r : Request). IsReply moment (form_of r) (http_answer x.1) b.1) (sym one.0)
+    (subst (λ (z : Response). IsReply moment (form_of y.0) (http_answer z) b.1) (sym gets.0) b.4.replies)) in
     record {
       request = one.0;
       exchange = ap (λ (r : Request). (r, x.1)) one.0 ∙ ap (λ (z : Response). (y.0, z)) gets.0;
       rest = b.3;
       replies = b.5 ∙ ap (λ (r : List ℕ). r ++ b.3) (sym reply);
-      others = subst (λ (mid : State). AnswersAll A moment mid a.2 later u b.3 behind) (sym gets.1) (subst (λ (after : List ℕ). AnswersAll A moment b.0 after later u b.3 behind) (sym one.1) b.6);
+      others = subst (λ (mid : State). AnswersAll A moment mid a.2 later u b.3 behind) (sym gets.1)
+          (subst (λ (after : List ℕ). AnswersAll A moment b.0 after later u b.3 behind) (sym one.1) b.6);
     }
 
 -- .. and so all
@@ -139,7 +143,8 @@ alike : (A : AgreedValues) (moment : ℕ) (s t u : State) (text replies same res
     → IsOne done other t u replies same rest behind
 alike A moment s t u text replies same rest behind [] [] a b stops ends sound ok = both_none A moment s t u text replies same rest behind [] [] refl refl a b
 alike A moment s t u text replies same rest behind [] (y ∷ later) a b stops ends sound ok =
-    absurd (begins_none A moment s u text same behind y later b (subst (λ (x : List ℕ). IsOpen x ⊎ ((refused : Refused) × BeginsNoRequest x refused)) a.2 stops))
+    absurd (begins_none A moment s u text same behind y later b
+    (subst (λ (x : List ℕ). IsOpen x ⊎ ((refused : Refused) × BeginsNoRequest x refused)) a.2 stops))
 alike A moment s t u text replies same rest behind (x ∷ more) [] a b stops ends sound ok =
     absurd (begins_none A moment s t text replies rest x more a (subst (λ (z : List ℕ). IsOpen z ⊎ ((refused : Refused) × BeginsNoRequest z refused)) b.2 ends))
 alike A moment s t u text replies same rest behind (x ∷ more) (y ∷ later) a b (inl p) (inl q) sound ok =
@@ -185,7 +190,8 @@ EndsSo done rest WriteFault = ⊥
 EndsSo done rest Memory = ⊥
 EndsSo done rest TooLong = ⊥
 
-ends_so : (A : AgreedValues) (moment : ℕ) (done : List RequestAndResponse) (mid t : State) (replies rest : List ℕ) (unread : Option (List ℕ)) (before after : SinkAndJournal) (end : Served) → IsJudged end
+ends_so : (A : AgreedValues) (moment : ℕ) (done : List RequestAndResponse) (mid t : State) (replies rest : List ℕ) (unread : Option (List ℕ))
+    (before after : SinkAndJournal) (end : Served) → IsJudged end
     → StreamEnds A moment done mid replies rest unread before after t end → (t ≡ mid) × EndsSo done rest end
 ends_so A moment done mid t replies rest unread before after Closed is e = (e.0, e.2)
 ends_so A moment done mid t replies rest unread before after Truncated is e = (e.0, (e.2, e.3, e.4))
@@ -248,7 +254,8 @@ serves_in_one_way A moment s t u input unread later before after base now i j k 
     at_judged end _ (λ is. at_judged other _ (λ was.
     let e = ends_so A moment one.done one.mid t one.replies one.rest unread before after end is one.ends in
     let f = ends_so A moment two.done two.mid u two.replies two.rest later base now other was two.ends in
-    let same = alike A moment s one.mid two.mid input one.replies two.replies one.rest two.rest one.done two.done one.all two.all (stops_so one.done one.rest end e.1) (stops_so two.done two.rest other f.1) sound ok in
+    let same = alike A moment s one.mid two.mid input one.replies two.replies one.rest two.rest one.done two.done one.all two.all
+    (stops_so one.done one.rest end e.1) (stops_so two.done two.rest other f.1) sound ok in
     let there : EndsSo one.done one.rest other =
     subst (λ (d : List RequestAndResponse). EndsSo d one.rest other) (sym same.0) (subst (λ (r : List ℕ). EndsSo two.done r other) (sym same.3) f.1) in
     (same.0, same.2, same.3, one_end one.done one.rest end other e.1 there, e.0 ∙ same.1 ∙ sym f.0)))

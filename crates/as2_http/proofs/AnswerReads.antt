@@ -28,14 +28,16 @@ pub was_needed : (input : List ℕ) (p : AnswerParser) (unread after : Option (L
     → AwaitsMore input p unread calls later → Consumes unread after piece → length piece ≤ read_limit
     → next ≡ later + 1 → ReadsNeeded IsOpenAnswer input after calls next
 was_needed input p unread after calls later next piece w c most is =
-    read_on IsOpenAnswer input unread after calls later next piece w.reads w.gave (holds_open p w.reads.read w.holds) (piece_of unread after w.reads.left piece c w.reads.known) most is
+    read_on IsOpenAnswer input unread after calls later next piece w.reads w.gave (holds_open p w.reads.read w.holds)
+    (piece_of unread after w.reads.left piece c w.reads.known) most is
 
 -- .. and one that failed
 pub failed_needed : (input : List ℕ) (p : AnswerParser) (unread after : Option (List ℕ)) (calls later next : ℕ) → AwaitsMore input p unread calls later
     → Keeps unread after → next ≡ later + 1
     → ReadsNeeded IsOpenAnswer input after calls next
 failed_needed input p unread after calls later next w kept is =
-    read_on IsOpenAnswer input unread after calls later next [] w.reads w.gave (holds_open p w.reads.read w.holds) (nothing_of unread after w.reads.left kept w.reads.known) (omega arith) is
+    read_on IsOpenAnswer input unread after calls later next [] w.reads w.gave (holds_open p w.reads.read w.holds)
+    (nothing_of unread after w.reads.left kept w.reads.known) (omega arith) is
 
 pub awaits_on : (input : List ℕ) (p q : AnswerParser) (unread after : Option (List ℕ)) (calls later next : ℕ) (piece : List ℕ)
     → (w : AwaitsMore input p unread calls later) → Consumes unread after piece → length piece ≤ read_limit
@@ -52,13 +54,16 @@ holds_all input p unread after calls later w c done =
     let same : w.reads.read ≡ input = sym (w.reads.whole ∙ ap (λ (t : List ℕ). w.reads.read ++ t) none ∙ append-nil w.reads.read) in
     subst (HasKept p) same w.holds
 
-pub answer_arrives : (input : List ℕ) (p : AnswerParser) (unread after : Option (List ℕ)) (calls later : ℕ) (piece : List ℕ) (a : ReceivedAnswer) (w : AwaitsMore input p unread calls later) → Consumes unread after piece
+pub answer_arrives : (input : List ℕ) (p : AnswerParser) (unread after : Option (List ℕ)) (calls later : ℕ) (piece : List ℕ) (a : ReceivedAnswer)
+    (w : AwaitsMore input p unread calls later) → Consumes unread after piece
     → ((rest : List ℕ) × BeginsAnswer (w.reads.read ++ piece) a.status a.fields a.body rest) → AnswerIn input a.status a.fields a.body
 answer_arrives input p unread after calls later piece a w c b =
     let m = piece_of unread after w.reads.left piece c w.reads.known in
     let rest = b.0 ++ m.left in
-    let whole : (w.reads.read ++ piece) ++ m.left ≡ input = append_assoc w.reads.read piece m.left ∙ ap (λ (t : List ℕ). w.reads.read ++ t) (sym m.whole) ∙ sym w.reads.whole in
-    by_length rest (subst (λ (i : List ℕ). BeginsAnswer i a.status a.fields a.body rest) whole (begins_more (w.reads.read ++ piece) m.left a.status a.fields a.body b.0 b.1))
+    let whole : (w.reads.read ++ piece) ++ m.left ≡ input = append_assoc w.reads.read piece m.left
+    ∙ ap (λ (t : List ℕ). w.reads.read ++ t) (sym m.whole) ∙ sym w.reads.whole in
+    by_length rest (subst (λ (i : List ℕ). BeginsAnswer i a.status a.fields a.body rest) whole
+    (begins_more (w.reads.read ++ piece) m.left a.status a.fields a.body b.0 b.1))
 
 -- ---- what is got
 

@@ -42,7 +42,8 @@ gave_on (first ∷ pieces) piece gave some = (gave.0, gave_on pieces piece gave.
 pub one_needed : (needs : List ℕ → Type 0) (text all piece : List ℕ) (pieces : List (List ℕ)) → AllGave pieces → AllNeeded needs text pieces all → needs all
     → length piece ≤ read_limit → AllNeeded needs text (pieces ++ piece ∷ []) (all ++ piece)
 one_needed needs text all piece [] gave same need most = (subst needs same need, most, λ none. refl, ap (λ (x : List ℕ). x ++ piece) same)
-one_needed needs text all piece (first ∷ pieces) gave needed need most = (needed.0, needed.1, λ none. absurd (gave_some first gave.0 none), one_needed needs (text ++ first) all piece pieces gave.1 needed.3 need most)
+one_needed needs text all piece (first ∷ pieces) gave needed need most =
+    (needed.0, needed.1, λ none. absurd (gave_some first gave.0 none), one_needed needs (text ++ first) all piece pieces gave.1 needed.3 need most)
 
 pub one_longer : (pieces : List (List ℕ)) (piece : List ℕ) → length (pieces ++ piece ∷ []) ≡ length pieces + 1
 one_longer pieces piece = length-append pieces (piece ∷ [])

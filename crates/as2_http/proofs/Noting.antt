@@ -17,7 +17,8 @@ says_unwritten a b c x l m p q = let both = says_trans a b c x [] l m p q in (su
 
 notes_join : (moment : ℕ) (done later : List RequestAndResponse) → notes moment (done ++ later) ≡ notes moment done ++ notes moment later
 notes_join moment [] later = refl
-notes_join moment (x ∷ done) later = ap (λ (l : List ℕ). note moment x.0 x.1 ++ l) (notes_join moment done later) ∙ sym (append_assoc (note moment x.0 x.1) (notes moment done) (notes moment later))
+notes_join moment (x ∷ done) later = ap (λ (l : List ℕ). note moment x.0 x.1 ++ l) (notes_join moment done later)
+    ∙ sym (append_assoc (note moment x.0 x.1) (notes moment done) (notes moment later))
 
 -- P of the lines of all of them
 pub notes_of_both : (moment : ℕ) (done later : List RequestAndResponse) (P : List ℕ → Type 0) → P (notes moment done ++ notes moment later)
@@ -34,4 +35,5 @@ says_join moment a b c x y done later p q =
 pub says_one : (moment : ℕ) (a b c : SinkAndJournal) (x y : List ℕ) (done : List RequestAndResponse) (e : RequestAndResponse)
     → WritesAndNotes a b x (notes moment done)
     → WritesAndNotes b c y (note moment e.0 e.1) → WritesAndNotes a c (x ++ y) (notes moment (done ++ e ∷ []))
-says_one moment a b c x y done e p q = says_join moment a b c x y done (e ∷ []) p (subst (λ (l : List ℕ). WritesAndNotes b c y l) (sym (append-nil (note moment e.0 e.1))) q)
+says_one moment a b c x y done e p q =
+    says_join moment a b c x y done (e ∷ []) p (subst (λ (l : List ℕ). WritesAndNotes b c y l) (sym (append-nil (note moment e.0 e.1))) q)

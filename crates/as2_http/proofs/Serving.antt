@@ -66,7 +66,8 @@ posts_run A moment s t done run = record { done = done; run = run; by_history = 
 pub runs_join : (A : AgreedValues) (moment : ℕ) (s mid t : State) → RunsPosts A moment s mid → RunsPosts A moment mid t → RunsPosts A moment s t
 runs_join A moment s mid t a b =
     posts_run A moment s t (a.done ++ b.done)
-    (subst (λ (trace : Trace). Run A s trace t) (sym (events_join moment a.done b.done)) (run_then A s mid t (stream_events moment a.done) (stream_events moment b.done) a.run b.run))
+    (subst (λ (trace : Trace). Run A s trace t) (sym (events_join moment a.done b.done))
+    (run_then A s mid t (stream_events moment a.done) (stream_events moment b.done) a.run b.run))
 
 pub runs_none : (A : AgreedValues) (moment : ℕ) (s : State) → RunsPosts A moment s s
 runs_none A moment s = posts_run A moment s s [] refl
@@ -92,23 +93,29 @@ one_behind A moment s mid t done run r x p =
 cut_runs : (A : AgreedValues) (moment : ℕ) (mid : State) (replies lines rest : List ℕ) (before after : SinkAndJournal) (t : State)
     → CutShort A moment mid replies lines rest before after t → RunsPosts A moment mid t
 cut_runs A moment mid replies lines rest before after t (in_reply r behind x text part missing b responds is cut written) = one_runs A moment mid t r x responds
-cut_runs A moment mid replies lines rest before after t (in_refusal refused text part missing b same is cut written) = subst (λ (x : State). RunsPosts A moment mid x) (sym same) (runs_none A moment mid)
+cut_runs A moment mid replies lines rest before after t (in_refusal refused text part missing b same is cut written) =
+    subst (λ (x : State). RunsPosts A moment mid x) (sym same) (runs_none A moment mid)
 
 memory_runs : (A : AgreedValues) (moment : ℕ) (mid : State) (replies lines rest : List ℕ) (before after : SinkAndJournal) (t : State)
     → OutOfMemory A moment mid replies lines rest before after t → RunsPosts A moment mid t
-memory_runs A moment mid replies lines rest before after t (for_request same written) = subst (λ (x : State). RunsPosts A moment mid x) (sym same) (runs_none A moment mid)
-memory_runs A moment mid replies lines rest before after t (for_refusal refused b same written) = subst (λ (x : State). RunsPosts A moment mid x) (sym same) (runs_none A moment mid)
+memory_runs A moment mid replies lines rest before after t (for_request same written) =
+    subst (λ (x : State). RunsPosts A moment mid x) (sym same) (runs_none A moment mid)
+memory_runs A moment mid replies lines rest before after t (for_refusal refused b same written) =
+    subst (λ (x : State). RunsPosts A moment mid x) (sym same) (runs_none A moment mid)
 memory_runs A moment mid replies lines rest before after t (for_reply r behind x b responds written) = one_runs A moment mid t r x responds
 
-piece_left : (A : AgreedValues) (moment : ℕ) (s mid t : State) (done : List RequestAndResponse) (text replies rest left : List ℕ) (p : RequestParser) (before after : SinkAndJournal) (end : Option Served)
+piece_left : (A : AgreedValues) (moment : ℕ) (s mid t : State) (done : List RequestAndResponse) (text replies rest left : List ℕ)
+    (p : RequestParser) (before after : SinkAndJournal) (end : Option Served)
     → AnswersAll A moment s text done mid replies rest → PieceEnds A moment done mid replies rest left p before after t end → RunsPosts A moment s t
 piece_left A moment s mid t done text replies rest left p before after None a e = answers_runs A moment s mid t text replies rest done a e.1
 piece_left A moment s mid t done text replies rest left p before after (Some served.Closed) a e = answers_runs A moment s mid t text replies rest done a e.1
 piece_left A moment s mid t done text replies rest left p before after (Some served.BadFraming) a e = answers_runs A moment s mid t text replies rest done a e.1
 piece_left A moment s mid t done text replies rest left p before after (Some served.WriteFault) a e =
-    runs_join A moment s mid t (answers_runs A moment s mid mid text replies rest done a refl) (cut_runs A moment mid replies (notes moment done) rest before after t e.1)
+    runs_join A moment s mid t (answers_runs A moment s mid mid text replies rest done a refl)
+    (cut_runs A moment mid replies (notes moment done) rest before after t e.1)
 piece_left A moment s mid t done text replies rest left p before after (Some served.Memory) a e =
-    runs_join A moment s mid t (answers_runs A moment s mid mid text replies rest done a refl) (memory_runs A moment mid replies (notes moment done) rest before after t e.1)
+    runs_join A moment s mid t (answers_runs A moment s mid mid text replies rest done a refl)
+    (memory_runs A moment mid replies (notes moment done) rest before after t e.1)
 piece_left A moment s mid t done text replies rest left p before after (Some served.Truncated) a e = absurd e
 piece_left A moment s mid t done text replies rest left p before after (Some served.ReadFault) a e = absurd e
 piece_left A moment s mid t done text replies rest left p before after (Some served.TooLong) a e = absurd e
@@ -117,10 +124,15 @@ piece_left A moment s mid t done text replies rest left p before after (Some ser
 abbrev pub TakenSoFar : {M : Medium} → AgreedValues → ℕ → State → Standing M → Type 0
 TakenSoFar A moment s c = (t : State) × c.Rests t × RunsPosts A moment s t
 
-pub taken_on : {M : Medium} (A : AgreedValues) (moment : ℕ) (s mid : State) (text left : List ℕ) (p : RequestParser) (c : Standing M) (before after : SinkAndJournal) (end : Option Served)
+pub taken_on : {M : Medium} (A : AgreedValues) (moment : ℕ) (s mid : State) (text left : List ℕ) (p : RequestParser) (c : Standing M)
+    (before after : SinkAndJournal) (end : Option Served)
     → RunsPosts A moment s mid → AnswersPiece A moment mid text left p c before after end → TakenSoFar A moment s c
-taken_on A moment s mid text left p c before after end runs a =
-    (a.last, a.rests, runs_join A moment s mid a.last runs (piece_left A moment mid a.mid a.last a.done text a.replies a.rest left p before after end a.all a.ends))
+taken_on A moment s mid text left p c before after end runs a = (
+  a.last,
+  a.rests,
+  runs_join A moment s mid a.last runs
+      (piece_left A moment mid a.mid a.last a.done text a.replies a.rest left p before after end a.all a.ends),
+)
 
 -- what is left, and how the stream came to it
 abbrev pub LeavesServed : {M : Medium} → AgreedValues → ℕ → State → List ℕ → Option (List ℕ) → Standing M → SinkAndJournal → SinkAndJournal → ℕ → ℕ → Served
@@ -130,19 +142,23 @@ LeavesServed A moment s input unread c before after calls later end = (t : State
 -- ---- what was read
 
 -- what was read needs more
-needs_more : {M : Medium} (A : AgreedValues) (moment : ℕ) (s : State) (input : List ℕ) (p : RequestParser) (c : Standing M) (unread : Option (List ℕ)) (before now : SinkAndJournal) (calls later : ℕ) → (w : BetweenReads A moment s input p c unread before now calls later)
+needs_more : {M : Medium} (A : AgreedValues) (moment : ℕ) (s : State) (input : List ℕ) (p : RequestParser) (c : Standing M)
+    (unread : Option (List ℕ)) (before now : SinkAndJournal) (calls later : ℕ) → (w : BetweenReads A moment s input p c unread before now calls later)
     → NeedsMore A moment s w.reads.read
 needs_more A moment s input p c unread before now calls later w =
     record { done = w.done; mid = w.mid; replies = w.replies; held = w.held; all = w.all; go_on = w.go_on; undecided = holds_open p w.held w.taken }
 
 -- the next call was needed
-next_read : {M : Medium} (A : AgreedValues) (moment : ℕ) (s : State) (input : List ℕ) (p : RequestParser) (c : Standing M) (unread after : Option (List ℕ)) (before now : SinkAndJournal) (calls later next : ℕ) (piece : List ℕ)
+next_read : {M : Medium} (A : AgreedValues) (moment : ℕ) (s : State) (input : List ℕ) (p : RequestParser) (c : Standing M)
+    (unread after : Option (List ℕ)) (before now : SinkAndJournal) (calls later next : ℕ) (piece : List ℕ)
     → (w : BetweenReads A moment s input p c unread before now calls later) → HasArrived w.reads.left piece after → length piece ≤ read_limit
     → next ≡ later + 1 → ReadsNeeded (NeedsMore A moment s) input after calls next
 next_read A moment s input p c unread after before now calls later next piece w m most is =
-    read_on (NeedsMore A moment s) input unread after calls later next piece w.reads w.gave (needs_more A moment s input p c unread before now calls later w) m most is
+    read_on (NeedsMore A moment s) input unread after calls later next piece w.reads w.gave
+    (needs_more A moment s input p c unread before now calls later w) m most is
 
-pub between_first : {M : Medium} (A : AgreedValues) (moment : ℕ) (s : State) (input : List ℕ) (p : RequestParser) (c : Standing M) (unread : Option (List ℕ)) (now : SinkAndJournal) (calls : ℕ) → c.Rests s → HasTaken p [] → unread ≡ Some input
+pub between_first : {M : Medium} (A : AgreedValues) (moment : ℕ) (s : State) (input : List ℕ) (p : RequestParser) (c : Standing M)
+    (unread : Option (List ℕ)) (now : SinkAndJournal) (calls : ℕ) → c.Rests s → HasTaken p [] → unread ≡ Some input
     → BetweenReads A moment s input p c unread now now calls calls
 unfolding reads_none
 between_first A moment s input p c unread now calls rests taken known = record {
@@ -176,22 +192,26 @@ answers_append A moment s t text replies rest left (x ∷ done) a = (
 )
 
 -- .. so in front of the whole input
-in_input : {M : Medium} (A : AgreedValues) (moment : ℕ) (s : State) (input : List ℕ) (p : RequestParser) (c : Standing M) (unread : Option (List ℕ)) (before now : SinkAndJournal) (calls later : ℕ) → (w : BetweenReads A moment s input p c unread before now calls later)
+in_input : {M : Medium} (A : AgreedValues) (moment : ℕ) (s : State) (input : List ℕ) (p : RequestParser) (c : Standing M)
+    (unread : Option (List ℕ)) (before now : SinkAndJournal) (calls later : ℕ) → (w : BetweenReads A moment s input p c unread before now calls later)
     → AnswersAll A moment s input w.done w.mid w.replies (w.held ++ w.reads.left)
 in_input A moment s input p c unread before now calls later w =
     subst (λ (t : List ℕ). AnswersAll A moment s t w.done w.mid w.replies (w.held ++ w.reads.left)) (sym w.reads.whole)
     (answers_append A moment s w.mid w.reads.read w.replies w.held w.reads.left w.done w.all)
 
-joined : {M : Medium} (A : AgreedValues) (moment : ℕ) (s : State) (input : List ℕ) (p q : RequestParser) (c d : Standing M) (unread after : Option (List ℕ)) (before now later : SinkAndJournal) (i j : ℕ) (piece : List ℕ) (end : Option Served)
+joined : {M : Medium} (A : AgreedValues) (moment : ℕ) (s : State) (input : List ℕ) (p q : RequestParser) (c d : Standing M)
+    (unread after : Option (List ℕ)) (before now later : SinkAndJournal) (i j : ℕ) (piece : List ℕ) (end : Option Served)
     → (w : BetweenReads A moment s input p c unread before now i j) → (m : HasArrived w.reads.left piece after)
     → (a : AnswersPiece A moment w.mid (w.held ++ piece ++ m.left) m.left q d now later end)
     → AnswersAll A moment s input (w.done ++ a.done) a.mid (w.replies ++ a.replies) a.rest
 joined A moment s input p q c d unread after before now later i j piece end w m a =
     answers_join A moment s w.mid a.mid input (w.held ++ piece ++ m.left) a.rest w.replies a.replies w.done a.done
-    (subst (λ (t : List ℕ). AnswersAll A moment s input w.done w.mid w.replies t) (ap (λ (t : List ℕ). w.held ++ t) m.whole ∙ sym (append_assoc w.held piece m.left)) (in_input A moment s input p c unread before now i j w)) a.all
+    (subst (λ (t : List ℕ). AnswersAll A moment s input w.done w.mid w.replies t)
+    (ap (λ (t : List ℕ). w.held ++ t) m.whole ∙ sym (append_assoc w.held piece m.left)) (in_input A moment s input p c unread before now i j w)) a.all
 
 -- no bytes behind the piece are looked at
-between_on : {M : Medium} (A : AgreedValues) (moment : ℕ) (s : State) (input : List ℕ) (p q : RequestParser) (c d : Standing M) (unread after : Option (List ℕ)) (before now later : SinkAndJournal) (i j k : ℕ) (piece : List ℕ)
+between_on : {M : Medium} (A : AgreedValues) (moment : ℕ) (s : State) (input : List ℕ) (p q : RequestParser) (c d : Standing M)
+    (unread after : Option (List ℕ)) (before now later : SinkAndJournal) (i j k : ℕ) (piece : List ℕ)
     → (w : BetweenReads A moment s input p c unread before now i j) → HasArrived w.reads.left piece after → length piece ≤ read_limit → k ≡ j + 1
     → 0 < length piece → AnswersPiece A moment w.mid (w.held ++ piece ++ []) [] q d now later None
     → BetweenReads A moment s input q d after before later i k
@@ -199,7 +219,8 @@ unfolding next_read read_on
 between_on A moment s input p q c d unread after before now later i j k piece w m most is some a =
     let held = a.ends.3.0 in
     let rest_is : a.rest ≡ held = a.ends.3.1 ∙ append-nil held in
-    let there = subst (λ (x : List ℕ). AnswersAll A moment w.mid x a.done a.mid a.replies held) (append-nil (w.held ++ piece)) (subst (λ (x : List ℕ). AnswersAll A moment w.mid (w.held ++ piece ++ []) a.done a.mid a.replies x) rest_is a.all) in
+    let there = subst (λ (x : List ℕ). AnswersAll A moment w.mid x a.done a.mid a.replies held) (append-nil (w.held ++ piece))
+    (subst (λ (x : List ℕ). AnswersAll A moment w.mid (w.held ++ piece ++ []) a.done a.mid a.replies x) rest_is a.all) in
     record {
       reads = next_read A moment s input p c unread after before now i j k piece w m most is;
       gave = gave_on w.reads.pieces piece w.gave some;
@@ -220,14 +241,17 @@ behind : (before now later : SinkAndJournal) (replies more part lines further ow
     → WritesAndNotes now later (more ++ part) (further ++ own)
     → WritesAndNotes before later (replies ++ more ++ part) (lines ++ further ++ own)
 behind before now later replies more part lines further own a b =
-    let both = says_trans before now later replies (more ++ part) lines (further ++ own) a b in
-    (subst (Appends before.written later.written) (sym (append_assoc replies more part)) both.0, subst (Appends before.noted later.noted) (sym (append_assoc lines further own)) both.1)
+    let both = says_trans before now later replies (more ++ part) lines (further ++ own) a b in (
+      subst (Appends before.written later.written) (sym (append_assoc replies more part)) both.0,
+      subst (Appends before.noted later.noted) (sym (append_assoc lines further own)) both.1,
+    )
 
 -- .. of which no more is written
 behind_unwritten : (before now later : SinkAndJournal) (replies more lines further own : List ℕ) → WritesAndNotes before now replies lines
     → WritesAndNotes now later more (further ++ own) → WritesAndNotes before later (replies ++ more) (lines ++ further ++ own)
 behind_unwritten before now later replies more lines further own a b =
-    let both = says_trans before now later replies more lines (further ++ own) a b in (both.0, subst (Appends before.noted later.noted) (sym (append_assoc lines further own)) both.1)
+    let both = says_trans before now later replies more lines (further ++ own) a b in
+    (both.0, subst (Appends before.noted later.noted) (sym (append_assoc lines further own)) both.1)
 
 cut_on : (A : AgreedValues) (moment : ℕ) (mid : State) (replies more lines further rest : List ℕ) (before now later : SinkAndJournal) (t : State)
     → WritesAndNotes before now replies lines → CutShort A moment mid more further rest now later t
@@ -240,19 +264,23 @@ cut_on A moment mid replies more lines further rest before now later t a (in_ref
 memory_on : (A : AgreedValues) (moment : ℕ) (mid : State) (replies more lines further rest : List ℕ) (before now later : SinkAndJournal) (t : State)
     → WritesAndNotes before now replies lines
     → OutOfMemory A moment mid more further rest now later t → OutOfMemory A moment mid (replies ++ more) (lines ++ further) rest before later t
-memory_on A moment mid replies more lines further rest before now later t a (for_request same said) = for_request same (says_trans before now later replies more lines further a said)
+memory_on A moment mid replies more lines further rest before now later t a (for_request same said) =
+    for_request same (says_trans before now later replies more lines further a said)
 memory_on A moment mid replies more lines further rest before now later t a (for_reply r next x b responds said) =
     for_reply r next x b responds (behind_unwritten before now later replies more lines further (note moment r x) a said)
 memory_on A moment mid replies more lines further rest before now later t a (for_refusal refused b same said) =
     for_refusal refused b same (behind_unwritten before now later replies more lines further (refusal_note moment refused.reason) a said)
 
 last_on : (done later : List RequestAndResponse) → StayOpen done → EndsLast later → EndsLast (done ++ later)
-last_on done later go l = (done ++ l.0, l.1, ap (λ (t : List RequestAndResponse). done ++ t) l.2 ∙ sym (append_assoc done l.0 (l.1 ∷ [])), go_on_join done l.0 go l.3, l.4)
+last_on done later go l =
+    (done ++ l.0, l.1, ap (λ (t : List RequestAndResponse). done ++ t) l.2 ∙ sym (append_assoc done l.0 (l.1 ∷ [])), go_on_join done l.0 go l.3, l.4)
 
-ends_on : (A : AgreedValues) (moment : ℕ) (done later : List RequestAndResponse) (mid : State) (replies more rest left : List ℕ) (q : RequestParser) (unread : Option (List ℕ)) (before now after : SinkAndJournal) (t : State) (end : Served)
+ends_on : (A : AgreedValues) (moment : ℕ) (done later : List RequestAndResponse) (mid : State) (replies more rest left : List ℕ)
+    (q : RequestParser) (unread : Option (List ℕ)) (before now after : SinkAndJournal) (t : State) (end : Served)
     → StayOpen done → WritesAndNotes before now replies (notes moment done) → PieceEnds A moment later mid more rest left q now after t (Some end)
     → StreamEnds A moment (done ++ later) mid (replies ++ more) rest unread before after t end
-ends_on A moment done later mid replies more rest left q unread before now after t served.Closed go a e = (e.1, says_join moment before now after replies more done later a e.2, inl (last_on done later go e.0))
+ends_on A moment done later mid replies more rest left q unread before now after t served.Closed go a e =
+    (e.1, says_join moment before now after replies more done later a e.2, inl (last_on done later go e.0))
 ends_on A moment done later mid replies more rest left q unread before now after t served.Truncated go a e = absurd e
 ends_on A moment done later mid replies more rest left q unread before now after t served.BadFraming go a e = (
   e.1,
@@ -262,7 +290,8 @@ ends_on A moment done later mid replies more rest left q unread before now after
     refuses = e.2.refuses;
     text = e.2.text;
     is = e.2.is;
-    said = notes_of_both moment done later (λ (l : List ℕ). WritesAndNotes before after (replies ++ more ++ e.2.text) (l ++ refusal_note moment e.2.refused.reason))
+    said = notes_of_both moment done later
+        (λ (l : List ℕ). WritesAndNotes before after (replies ++ more ++ e.2.text) (l ++ refusal_note moment e.2.refused.reason))
         (behind before now after replies more e.2.text (notes moment done) (notes moment later) (refusal_note moment e.2.refused.reason) a e.2.said);
   },
 )
@@ -279,7 +308,8 @@ ends_on A moment done later mid replies more rest left q unread before now after
 )
 ends_on A moment done later mid replies more rest left q unread before now after t served.TooLong go a e = absurd e
 
-serving_ends : {M : Medium} (A : AgreedValues) (moment : ℕ) (s : State) (input : List ℕ) (p q : RequestParser) (c d : Standing M) (unread after : Option (List ℕ)) (before now later : SinkAndJournal) (i j k : ℕ) (piece : List ℕ) (end : Served)
+serving_ends : {M : Medium} (A : AgreedValues) (moment : ℕ) (s : State) (input : List ℕ) (p q : RequestParser) (c d : Standing M)
+    (unread after : Option (List ℕ)) (before now later : SinkAndJournal) (i j k : ℕ) (piece : List ℕ) (end : Served)
     → (w : BetweenReads A moment s input p c unread before now i j) → (m : HasArrived w.reads.left piece after) → length piece ≤ read_limit → k ≡ j + 1
     → AnswersPiece A moment w.mid (w.held ++ piece ++ m.left) m.left q d now later (Some end)
     → LeavesServed A moment s input after d before later i k end
@@ -294,15 +324,18 @@ serving_ends A moment s input p q c d unread after before now later i j k piece 
         rest = a.rest;
         all = all;
         run = answers_run A moment s a.mid input (w.replies ++ a.replies) a.rest (w.done ++ a.done) all;
-        by_history = ends_by_history A s (stream_events moment (w.done ++ a.done)) a.mid (answers_run A moment s a.mid input (w.replies ++ a.replies) a.rest (w.done ++ a.done) all);
-        cut_by_history = one_behind A moment s a.mid a.last (w.done ++ a.done) (answers_run A moment s a.mid input (w.replies ++ a.replies) a.rest (w.done ++ a.done) all);
+        by_history = ends_by_history A s (stream_events moment (w.done ++ a.done)) a.mid
+            (answers_run A moment s a.mid input (w.replies ++ a.replies) a.rest (w.done ++ a.done) all);
+        cut_by_history = one_behind A moment s a.mid a.last (w.done ++ a.done)
+            (answers_run A moment s a.mid input (w.replies ++ a.replies) a.rest (w.done ++ a.done) all);
         ends = ends_on A moment w.done a.done a.mid w.replies a.replies a.rest m.left q after before now later a.last end w.go_on w.said a.ends;
         reads = next_read A moment s input p c unread after before now i j k piece w m most is;
       },
     )
 
 -- the piece is answered, whatever comes behind it
-pub next_answered : {M : Medium} (A : AgreedValues) (moment : ℕ) (s : State) (input : List ℕ) (p q : RequestParser) (c d : Standing M) (unread after : Option (List ℕ)) (before now later : SinkAndJournal) (i j k : ℕ) (piece : List ℕ) (result : Option Served)
+pub next_answered : {M : Medium} (A : AgreedValues) (moment : ℕ) (s : State) (input : List ℕ) (p q : RequestParser) (c d : Standing M)
+    (unread after : Option (List ℕ)) (before now later : SinkAndJournal) (i j k : ℕ) (piece : List ℕ) (result : Option Served)
     → (w : BetweenReads A moment s input p c unread before now i j) → HasArrived w.reads.left piece after → length piece ≤ read_limit → k ≡ j + 1
     → 0 < length piece
     → ((left : List ℕ) → AnswersPiece A moment w.mid (w.held ++ piece ++ left) left q d now later result)
@@ -315,7 +348,8 @@ next_answered A moment s input p q c d unread after before now later i j k piece
 -- ---- the other ends
 
 -- behind the replies so far, in the state that they left
-serves_as : {M : Medium} (A : AgreedValues) (moment : ℕ) (s : State) (input : List ℕ) (p : RequestParser) (c : Standing M) (unread after : Option (List ℕ)) (before now : SinkAndJournal) (i j k : ℕ) (end : Served)
+serves_as : {M : Medium} (A : AgreedValues) (moment : ℕ) (s : State) (input : List ℕ) (p : RequestParser) (c : Standing M)
+    (unread after : Option (List ℕ)) (before now : SinkAndJournal) (i j k : ℕ) (end : Served)
     → (w : BetweenReads A moment s input p c unread before now i j)
     → StreamEnds A moment w.done w.mid w.replies (w.held ++ w.reads.left) after before now w.mid end
     → ReadsNeeded (NeedsMore A moment s) input after i k
@@ -338,50 +372,63 @@ serves_as A moment s input p c unread after before now i j k end w e reads =
       },
     )
 
-serves_closed : {M : Medium} (A : AgreedValues) (moment : ℕ) (s : State) (input : List ℕ) (p : RequestParser) (c : Standing M) (unread after : Option (List ℕ)) (before now : SinkAndJournal) (i j k : ℕ) (w : BetweenReads A moment s input p c unread before now i j)
+serves_closed : {M : Medium} (A : AgreedValues) (moment : ℕ) (s : State) (input : List ℕ) (p : RequestParser) (c : Standing M)
+    (unread after : Option (List ℕ)) (before now : SinkAndJournal) (i j k : ℕ) (w : BetweenReads A moment s input p c unread before now i j)
     → Consumes unread after [] → IsAtEnd after → k ≡ j + 1 → ((text : List ℕ) → HasTaken p text → unblank text ≡ [])
     → LeavesServed A moment s input after c before now i k served.Closed
 serves_closed A moment s input p c unread after before now i j k w consumed done is blank =
-    let same : w.held ≡ w.held ++ w.reads.left = sym (append-nil w.held) ∙ ap (λ (t : List ℕ). w.held ++ t) (sym (at_end unread after w.reads.left consumed done w.reads.known)) in
+    let same : w.held ≡ w.held ++ w.reads.left = sym (append-nil w.held)
+    ∙ ap (λ (t : List ℕ). w.held ++ t) (sym (at_end unread after w.reads.left consumed done w.reads.known)) in
     serves_as A moment s input p c unread after before now i j k served.Closed w
     (refl, w.said, inr (w.go_on, subst IsOpen same (holds_open p w.held w.taken), subst (λ (t : List ℕ). unblank t ≡ []) same (blank w.held w.taken)))
     (next_read A moment s input p c unread after before now i j k [] w (piece_of unread after w.reads.left [] consumed w.reads.known) (omega arith) is)
 
-serves_truncated : {M : Medium} (A : AgreedValues) (moment : ℕ) (s : State) (input : List ℕ) (p : RequestParser) (c : Standing M) (unread after : Option (List ℕ)) (before now : SinkAndJournal) (i j k : ℕ) (w : BetweenReads A moment s input p c unread before now i j)
+serves_truncated : {M : Medium} (A : AgreedValues) (moment : ℕ) (s : State) (input : List ℕ) (p : RequestParser) (c : Standing M)
+    (unread after : Option (List ℕ)) (before now : SinkAndJournal) (i j k : ℕ) (w : BetweenReads A moment s input p c unread before now i j)
     → Consumes unread after [] → IsAtEnd after → k ≡ j + 1 → ((text : List ℕ) → HasTaken p text → ¬ (unblank text ≡ []))
     → LeavesServed A moment s input after c before now i k served.Truncated
 serves_truncated A moment s input p c unread after before now i j k w consumed done is some =
-    let same : w.held ≡ w.held ++ w.reads.left = sym (append-nil w.held) ∙ ap (λ (t : List ℕ). w.held ++ t) (sym (at_end unread after w.reads.left consumed done w.reads.known)) in
+    let same : w.held ≡ w.held ++ w.reads.left = sym (append-nil w.held)
+    ∙ ap (λ (t : List ℕ). w.held ++ t) (sym (at_end unread after w.reads.left consumed done w.reads.known)) in
     serves_as A moment s input p c unread after before now i j k served.Truncated w
     (refl, w.said, w.go_on, subst IsOpen same (holds_open p w.held w.taken), subst (λ (t : List ℕ). ¬ (unblank t ≡ [])) same (some w.held w.taken))
     (next_read A moment s input p c unread after before now i j k [] w (piece_of unread after w.reads.left [] consumed w.reads.known) (omega arith) is)
 
 -- the input ended
-pub serves_ended : {M : Medium} (A : AgreedValues) (moment : ℕ) (s : State) (input : List ℕ) (p : RequestParser) (c : Standing M) (unread after : Option (List ℕ)) (before now : SinkAndJournal) (i j k : ℕ) (end : Served) → BetweenReads A moment s input p c unread before now i j
+pub serves_ended : {M : Medium} (A : AgreedValues) (moment : ℕ) (s : State) (input : List ℕ) (p : RequestParser) (c : Standing M)
+    (unread after : Option (List ℕ)) (before now : SinkAndJournal) (i j k : ℕ) (end : Served) → BetweenReads A moment s input p c unread before now i j
     → Consumes unread after [] → IsAtEnd after → k ≡ j + 1 → (end ≡ served.Closed → (text : List ℕ) → HasTaken p text → unblank text ≡ [])
     → (end ≡ served.Truncated → (text : List ℕ) → HasTaken p text → ¬ (unblank text ≡ [])) → (end ≡ served.Closed) ⊎ (end ≡ served.Truncated)
     → LeavesServed A moment s input after c before now i k end
 serves_ended A moment s input p c unread after before now i j k end w consumed done is blank some one =
     elim one [
-      | inl same ↦ subst (λ (x : Served). LeavesServed A moment s input after c before now i k x) (sym same) (serves_closed A moment s input p c unread after before now i j k w consumed done is (blank same))
-      | inr same ↦ subst (λ (x : Served). LeavesServed A moment s input after c before now i k x) (sym same) (serves_truncated A moment s input p c unread after before now i j k w consumed done is (some same))
+      | inl same ↦ subst (λ (x : Served). LeavesServed A moment s input after c before now i k x) (sym same)
+          (serves_closed A moment s input p c unread after before now i j k w consumed done is (blank same))
+      | inr same ↦ subst (λ (x : Served). LeavesServed A moment s input after c before now i k x) (sym same)
+          (serves_truncated A moment s input p c unread after before now i j k w consumed done is (some same))
     ]
 
-pub serves_fault : {M : Medium} (A : AgreedValues) (moment : ℕ) (s : State) (input : List ℕ) (p : RequestParser) (c : Standing M) (unread after : Option (List ℕ)) (before now : SinkAndJournal) (i j k : ℕ) → BetweenReads A moment s input p c unread before now i j → Keeps unread after → k ≡ j + 1
+pub serves_fault : {M : Medium} (A : AgreedValues) (moment : ℕ) (s : State) (input : List ℕ) (p : RequestParser) (c : Standing M)
+    (unread after : Option (List ℕ)) (before now : SinkAndJournal) (i j k : ℕ) → BetweenReads A moment s input p c unread before now i j
+    → Keeps unread after → k ≡ j + 1
     → LeavesServed A moment s input after c before now i k served.ReadFault
 unfolding nothing_of
 serves_fault A moment s input p c unread after before now i j k w kept is =
     let m = nothing_of unread after w.reads.left kept w.reads.known in
-    serves_as A moment s input p c unread after before now i j k served.ReadFault w (refl, w.said, w.go_on, (w.held, w.reads.left, refl, holds_open p w.held w.taken, m.kept))
+    serves_as A moment s input p c unread after before now i j k served.ReadFault w
+    (refl, w.said, w.go_on, (w.held, w.reads.left, refl, holds_open p w.held w.taken, m.kept))
     (next_read A moment s input p c unread after before now i j k [] w m (omega arith) is)
 
-pub serves_long : {M : Medium} (A : AgreedValues) (moment : ℕ) (s : State) (input : List ℕ) (p : RequestParser) (c : Standing M) (unread : Option (List ℕ)) (before now : SinkAndJournal) (i j : ℕ) → BetweenReads A moment s input p c unread before now i j
+pub serves_long : {M : Medium} (A : AgreedValues) (moment : ℕ) (s : State) (input : List ℕ) (p : RequestParser) (c : Standing M)
+    (unread : Option (List ℕ)) (before now : SinkAndJournal) (i j : ℕ) → BetweenReads A moment s input p c unread before now i j
     → LeavesServed A moment s input unread c before now i j served.TooLong
 serves_long A moment s input p c unread before now i j w =
-    serves_as A moment s input p c unread unread before now i j j served.TooLong w (refl, w.said, w.go_on, (w.held, w.reads.left, refl, holds_open p w.held w.taken, w.reads.known)) w.reads
+    serves_as A moment s input p c unread unread before now i j j served.TooLong w
+    (refl, w.said, w.go_on, (w.held, w.reads.left, refl, holds_open p w.held w.taken, w.reads.known)) w.reads
 
 -- memory for the reads was wanting
-pub serves_nothing : {M : Medium} (A : AgreedValues) (moment : ℕ) (s : State) (input : List ℕ) (c : Standing M) (unread : Option (List ℕ)) (now : SinkAndJournal) (calls : ℕ) → c.Rests s → unread ≡ Some input → LeavesServed A moment s input unread c now now calls calls served.Memory
+pub serves_nothing : {M : Medium} (A : AgreedValues) (moment : ℕ) (s : State) (input : List ℕ) (c : Standing M) (unread : Option (List ℕ))
+    (now : SinkAndJournal) (calls : ℕ) → c.Rests s → unread ≡ Some input → LeavesServed A moment s input unread c now now calls calls served.Memory
 serves_nothing A moment s input c unread now calls rests known = (
   s,
   rests,

@@ -25,7 +25,8 @@ one_by_history A lists events s t it = ends_by_history A s events t (one A lists
 -- a receipt settled what is successful
 settled : (A : Agreements) (s : State) (k : ℕ) (d : OutEntry) → IsWellFormed A s → document s k ≡ Some d → class_of d.detail ≡ S → is_settled d ≡ true
 settled A s k d formed is successful =
-    let entry : IsEntry d = all_found IsEntry (λ (e : OutEntry). e) _ s.outbox d (all_map IsEntry (λ (e : OutEntry). e) (λ e it. it) s.outbox formed.sent.entries) is in
+    let entry : IsEntry d = all_found IsEntry (λ (e : OutEntry). e) _ s.outbox d
+    (all_map IsEntry (λ (e : OutEntry). e) (λ e it. it) s.outbox formed.sent.entries) is in
     entry.evidence ∙ ap is_by_receipt ((state_of_success d.detail).0 successful)
 
 as_it_stood : (d : OutEntry) (o : Option OutEntry) → class_of d.detail ≡ S → IsSomeAnd o (λ (e : OutEntry). (e.detail ≡ d.detail) × (e.evidence ≡ d.evidence))

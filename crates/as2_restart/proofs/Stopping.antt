@@ -47,11 +47,14 @@ not_handed_in : (A : Agreements) (s t : State) (organization partner content : T
     → submit_refusal A organization partner content ≡ o → asks_store A (Submit organization partner content m) ≡ false
     → submit A s organization partner content m ≡ Some (a, t) → t ≡ s
 not_handed_in A s t organization partner content m a None refused none is = absurd (let two : true ≡ false = ap is_none (sym refused) ∙ none in cc)
-not_handed_in A s t organization partner content m a (Some reason) refused none is = left_of (Refused reason, s) (a, t) (sym (refuses A s organization partner content m reason refused) ∙ is)
+not_handed_in A s t organization partner content m a (Some reason) refused none is =
+    left_of (Refused reason, s) (a, t) (sym (refuses A s organization partner content m reason refused) ∙ is)
 
 unasked : (A : Agreements) (s t : State) (e : Event) (a : Answer) → state_digests s ≡ AllDigests → asks_store A e ≡ false → step A s e ≡ Some (a, t) → t ≡ s
-unasked A s t (Post head body m) a knows none is = unread_post A s t m a (post_reading A AllDigests head body) none (subst (λ (k : Digests). post A s m (post_reading A k head body) ≡ Some (a, t)) knows is)
-unasked A s t (Submit organization partner content m) a knows none is = not_handed_in A s t organization partner content m a (submit_refusal A organization partner content) refl none is
+unasked A s t (Post head body m) a knows none is =
+    unread_post A s t m a (post_reading A AllDigests head body) none (subst (λ (k : Digests). post A s m (post_reading A k head body) ≡ Some (a, t)) knows is)
+unasked A s t (Submit organization partner content m) a knows none is =
+    not_handed_in A s t organization partner content m a (submit_refusal A organization partner content) refl none is
 unasked A s t (Begin n m) a knows none is = absurd cc
 unasked A s t (Outcome n got m) a knows none is = absurd cc
 unasked A s t (Resend n m) a knows none is = absurd cc
@@ -153,7 +156,11 @@ module _ (A : Agreements) (x : Event) (told : Trace) (old mid : Connected) (clea
 
       by : (opened : Bool) → mid.is_open ≡ opened → (came : Option (Answer × State)) → step A s x ≡ came → Goes A (AnEvent x (Failed f) ∷ told) s None db
       by true opened came is = whole (record { each = (it.lasts opened s now.0).each })
-      by false opened None is = whole (record { each = λ d may. elim (shut_at A x f old mid s None is clean it rests lasts d may) [ inl k ↦ k | inr n ↦ absurd (let none : None ≡ Some (n.1, n.0) = n.2 in cc) ] })
+      by false opened None is =
+          whole (record {
+            each = λ d may. elim
+                (shut_at A x f old mid s None is clean it rests lasts d may) [ inl k ↦ k | inr n ↦ absurd (let none : None ≡ Some (n.1, n.0) = n.2 in cc) ];
+          })
       by false opened (Some y) is =
           let rested : Rests mid y.1 = record {
             autocommit = now.0.autocommit;
@@ -161,7 +168,17 @@ module _ (A : Agreements) (x : Event) (told : Trace) (old mid : Connected) (clea
             committed = λ yes. absurd (let two : true ≡ false = sym yes ∙ opened in cc);
             knows = ap known_digests (step_steady A s x y is).0 ∙ now.0.knows;
           } in
-          let at : At s (Some y.1) mid = (opened, now.0, rested, λ d may. elim (shut_at A x f old mid s (Some y) is clean it rests lasts d may) [ inl k ↦ inl k | inr n ↦ inr (subst (Keeps d) (left_of y (n.1, n.0) n.2) n.3) ]) in
+          let at : At s (Some y.1) mid = (
+            opened,
+            now.0,
+            rested,
+            λ d may. elim
+                (shut_at A x f old mid s (Some y) is clean it rests lasts d may) [
+                  | inl k ↦ inl k
+                  | inr n ↦ inr
+                      (subst (Keeps d) (left_of y (n.1, n.0) n.2) n.3)
+                ],
+          ) in
           elim (go (Some y.1) at) [
             | inl k ↦ (k.0, failed_first A x f told s k.0 now.1 k.1, k.2)
             | inr k ↦ (k.0, done_first A x f y.0 told s y.1 k.0 is k.1 k.2, k.3)
@@ -179,7 +196,9 @@ module _ (A : Agreements) (x : Event) (told : Trace) (old mid : Connected) (clea
       other = it.does.answered clean u at.2 tt
 
       by : (opened : Bool) → mid.is_open ≡ opened → (asks : Bool) → asks_store A x ≡ asks → Goes A (AnEvent x (Answered a) ∷ told) s (Some u) db
-      by true opened asks asked = let later = go now.next None (now.rests, record { each = (it.lasts opened now.next now.rests).each }) in inl (later.0, answered_first A x a told s now.next later.0 now.step later.1, later.2)
+      by true opened asks asked = let later =
+          go now.next None (now.rests, record { each = (it.lasts opened now.next now.rests).each }) in inl
+          (later.0, answered_first A x a told s now.next later.0 now.step later.1, later.2)
       by false opened true asked = absurd (let two : true ≡ false = sym (it.does.is_open clean asked) ∙ opened in cc)
       by false opened false asked =
           let same = unasked A s now.next x a at.1.knows asked now.step in
@@ -210,9 +229,19 @@ module _ (A : Agreements) (x : Event) (told : Trace) (old mid : Connected) (clea
       other = it.does.failed clean u at.2 tt
 
       by : (opened : Bool) → mid.is_open ≡ opened → Goes A (AnEvent x (Failed f) ∷ told) s (Some u) db
-      by true opened = let later = go None (now.0, record { each = (it.lasts opened s now.0).each }) in inl (later.0, failed_first A x f told s later.0 now.1 later.1, later.2)
+      by true opened = let later =
+          go None (now.0, record { each = (it.lasts opened s now.0).each }) in inl (later.0, failed_first A x f told s later.0 now.1 later.1, later.2)
       by false opened =
-          let next : At s (Some u) mid = (opened, now.0, other.0, λ d may. elim (it.does.crash.crash clean d may) [ inl before ↦ at.3 d before | inr more ↦ absurd (let two : true ≡ false = sym more.was_open ∙ at.0 in cc) ]) in
+          let next : At s (Some u) mid = (
+            opened,
+            now.0,
+            other.0,
+            λ d may. elim (it.does.crash.crash clean d may) [
+              | inl before ↦ at.3 d before
+              | inr more ↦ absurd
+                  (let two : true ≡ false = sym more.was_open ∙ at.0 in cc)
+            ],
+          ) in
           elim (go (Some u) next) [ inl k ↦ inl (k.0, failed_first A x f told s k.0 now.1 k.1, k.2) | inr k ↦ inr (k.0, (other.1, k.1), k.2, k.3) ]
 
 module _ {S : Type 0} (g : Ghosts S) (A : Agreements) where
@@ -221,7 +250,8 @@ module _ {S : Type 0} (g : Ghosts S) (A : Agreements) where
       → HasCleanDisk (state g new) → (s : State) (o : Option State) → At s o (state g old)
       → (db : Trees) → (state g new).may_leave db → Goes A (trace es rs) s o db
   goes_on [] [] old new same clean s None at db may = (s, ([], inl refl, refl), at.1.each db (subst (λ (h : Held S). (state g h).may_leave db) same may))
-  goes_on [] [] old new same clean s (Some u) at db may = elim (at.3 db (subst (λ (h : Held S). (state g h).may_leave db) same may)) [ inl k ↦ inl (s, ([], inl refl, refl), k) | inr k ↦ inr (u, refl, tt, k) ]
+  goes_on [] [] old new same clean s (Some u) at db may =
+      elim (at.3 db (subst (λ (h : Held S). (state g h).may_leave db) same may)) [ inl k ↦ inl (s, ([], inl refl, refl), k) | inr k ↦ inr (u, refl, tt, k) ]
   goes_on [] (q ∷ rs) old new none clean s o at db may = absurd none
   goes_on (x ∷ es) [] old new none clean s o at db may = absurd none
   goes_on (x ∷ es) (Ok a ∷ rs) old new it clean s None at db may =
@@ -231,11 +261,17 @@ module _ {S : Type 0} (g : Ghosts S) (A : Agreements) where
       let later = goes_on es rs it.0 new it.4 clean now.next None (now.rests, held) db may in
       (later.0, answered_first A x a (trace es rs) s now.next later.0 now.step later.1, later.2)
   goes_on (x ∷ es) (Ok a ∷ rs) old new it clean s (Some u) at db may =
-      answered_shut A x (trace es rs) (state g old) (state g it.0) (taken_clean (λ (h : Held S). tables_standing (state g h)) A es rs it.0 new it.4 clean) db a it.1 s u at (λ t o there. goes_on es rs it.0 new it.4 clean t o there db may)
+      answered_shut A x (trace es rs) (state g old) (state g it.0)
+      (taken_clean (λ (h : Held S). tables_standing (state g h)) A es rs it.0 new it.4 clean) db a it.1 s u at
+      (λ t o there. goes_on es rs it.0 new it.4 clean t o there db may)
   goes_on (x ∷ es) (Err f ∷ rs) old new it clean s None at db may =
-      failed_goes A x (trace es rs) (state g old) (state g it.0) (taken_clean (λ (h : Held S). tables_standing (state g h)) A es rs it.0 new it.4 clean) db f it.1 s at.0 at.1 (λ o there. goes_on es rs it.0 new it.4 clean s o there db may)
+      failed_goes A x (trace es rs) (state g old) (state g it.0)
+      (taken_clean (λ (h : Held S). tables_standing (state g h)) A es rs it.0 new it.4 clean) db f it.1 s at.0 at.1
+      (λ o there. goes_on es rs it.0 new it.4 clean s o there db may)
   goes_on (x ∷ es) (Err f ∷ rs) old new it clean s (Some u) at db may =
-      failed_shut A x (trace es rs) (state g old) (state g it.0) (taken_clean (λ (h : Held S). tables_standing (state g h)) A es rs it.0 new it.4 clean) db f it.1 s u at (λ o there. goes_on es rs it.0 new it.4 clean s o there db may)
+      failed_shut A x (trace es rs) (state g old) (state g it.0)
+      (taken_clean (λ (h : Held S). tables_standing (state g h)) A es rs it.0 new it.4 clean) db f it.1 s u at
+      (λ o there. goes_on es rs it.0 new it.4 clean s o there db may)
 
   -- whatever stops the computer after these events, they lead to what is found, perhaps with one more done
   pub leaves : (es : List Event) (rs : List (Result Answer StoreFault)) (old new : Held S)

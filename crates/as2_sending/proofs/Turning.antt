@@ -62,7 +62,8 @@ may_be f none either = elim either [ inl full ↦ absurd (none full) | inr may �
 pub begin_fails : {M : Medium} (A : Agreements) (m : ℕ) (s : State) (what : Next) (c : Standing M) (f : StoreFault) → next s m ≡ Some what → c.Rests s
     × (f ≡ Full → step A s (begin_event what m) ≡ None) → (f ≡ Full) ⊎ (may_come f ≡ true)
     → BeginsTo A m s what c (Err (sent.Failed f))
-begin_fails A m s what c f is left either = (_, s, (at_begin_failed what is refl refl, may_be f (λ full. begin_answered A m s what (left.1 full)) either, refl), left.0, refl)
+begin_fails A m s what c f is left either =
+    (_, s, (at_begin_failed what is refl refl, may_be f (λ full. begin_answered A m s what (left.1 full)) either, refl), left.0, refl)
 
 -- ---- an outcome
 
@@ -76,19 +77,27 @@ one_made : (what : Next) (job : Job) (got : TryAnswer) (m : ℕ)
     → exchange_of (Answered (Handed job)) (outcome_event what got m) ++ [] ≡ record { job = job; got = got } ∷ []
 one_made what job got m = append-nil (exchange_of (Answered (Handed job)) (outcome_event what got m)) ∙ one_exchange what job got m
 
-pub closes_to : {M : Medium} (A : Agreements) (m : ℕ) (s : State) (what : Next) (got : TryAnswer) (job : Job) (mid : State) (c : Standing M) (became : Became) (t : State) → step A mid (outcome_event what got m) ≡ Some (answer_of became, t) → c.Rests t → IsSafe c t
+pub closes_to : {M : Medium} (A : Agreements) (m : ℕ) (s : State) (what : Next) (got : TryAnswer) (job : Job) (mid : State) (c : Standing M)
+    (became : Became) (t : State) → step A mid (outcome_event what got m) ≡ Some (answer_of became, t) → c.Rests t → IsSafe c t
     → ClosesTo A m s what (record { job = job; got = got }) mid c (Ok became)
 closes_to A m s what got job mid c became t h rests safe = (t, h, rests, safe)
 
-pub outcome_refused : {M : Medium} (A : Agreements) (m : ℕ) (s : State) (what : Next) (got : TryAnswer) (job : Job) (mid : State) (c : Standing M) (reason : Refusal) (t : State) → BeginsTry A m s what job mid → step A mid (outcome_event what got m) ≡ Some (Refused reason, t) → c.Rests t
+pub outcome_refused : {M : Medium} (A : Agreements) (m : ℕ) (s : State) (what : Next) (got : TryAnswer) (job : Job) (mid : State) (c : Standing M)
+    (reason : Refusal) (t : State) → BeginsTry A m s what job mid → step A mid (outcome_event what got m) ≡ Some (Refused reason, t) → c.Rests t
     → ClosesTo A m s what (record { job = job; got = got }) mid c (Err (sent.Refused reason))
 outcome_refused A m s what got job mid c reason t b h rests = (_, t, (at_outcome_refused what job got mid b h refl, refl), rests, one_made what job got m)
 
-pub outcome_fails : {M : Medium} (A : Agreements) (m : ℕ) (s : State) (what : Next) (got : TryAnswer) (job : Job) (mid : State) (c : Standing M) (f : StoreFault) → BeginsTry A m s what job mid
+pub outcome_fails : {M : Medium} (A : Agreements) (m : ℕ) (s : State) (what : Next) (got : TryAnswer) (job : Job) (mid : State) (c : Standing M)
+    (f : StoreFault) → BeginsTry A m s what job mid
     → c.Rests mid × (f ≡ Full → step A mid (outcome_event what got m) ≡ None) → (f ≡ Full) ⊎ (may_come f ≡ true)
     → ClosesTo A m s what (record { job = job; got = got }) mid c (Err (sent.Failed f))
-outcome_fails A m s what got job mid c f b left either =
-    (_, mid, (at_outcome_failed what job got b refl, may_be f (λ full. outcome_answered A m mid what got (left.1 full)) either, refl), left.0, one_made what job got m)
+outcome_fails A m s what got job mid c f b left either = (
+  _,
+  mid,
+  (at_outcome_failed what job got b refl, may_be f (λ full. outcome_answered A m mid what got (left.1 full)) either, refl),
+  left.0,
+  one_made what job got m,
+)
 
 -- ---- a turn
 
@@ -97,16 +106,20 @@ pub begin_ends : {M : Medium} (U : Type 0) (A : Agreements) (m : ℕ) (s : State
     → List Exchange → Type 0) (end : Sent) → Seen [] [] → BeginsTo A m s what c (Err end) → TurnsTo {U = U} A m s c now now Seen (Err end)
 begin_ends U A m s what c now Seen end none w = (w.0, w.1, [], w.2, w.3, Appends-nil now, subst (Seen []) (sym w.4) none)
 
-pub close_ends : {M : Medium} (U : Type 0) (A : Agreements) (m : ℕ) (s : State) (what : Next) (x : Exchange) (mid : State) (c : Standing M) (now : Option (List ℕ)) (Seen : Text → List Exchange → Type 0) (end : Sent) → Seen [] (x ∷ []) → ClosesTo A m s what x mid c (Err end) → TurnsTo {U = U} A m s c now now Seen (Err end)
+pub close_ends : {M : Medium} (U : Type 0) (A : Agreements) (m : ℕ) (s : State) (what : Next) (x : Exchange) (mid : State) (c : Standing M)
+    (now : Option (List ℕ)) (Seen : Text → List Exchange → Type 0) (end : Sent) → Seen [] (x ∷ []) → ClosesTo A m s what x mid c (Err end)
+    → TurnsTo {U = U} A m s c now now Seen (Err end)
 close_ends U A m s what x mid c now Seen end made w = (w.0, w.1, [], w.2, w.3, Appends-nil now, subst (Seen []) (sym w.4) made)
 
-pub turn_told : {M : Medium} (U : Type 0) (A : Agreements) (m : ℕ) (s : State) (what : Next) (got : TryAnswer) (fault : LinkFault) (job : Job) (mid : State) (c : Standing M) (before after : Option (List ℕ)) (Seen : Text → List Exchange → Type 0) (became : Became) (u : U)
+pub turn_told : {M : Medium} (U : Type 0) (A : Agreements) (m : ℕ) (s : State) (what : Next) (got : TryAnswer) (fault : LinkFault) (job : Job)
+    (mid : State) (c : Standing M) (before after : Option (List ℕ)) (Seen : Text → List Exchange → Type 0) (became : Became) (u : U)
     → BeginsTry A m s what job mid → ClosesTo A m s what (record { job = job; got = got }) mid c (Ok became) → Appends before after (turn_line what became)
     → Seen (hint_if what became (why_of got fault)) (record { job = job; got = got } ∷ []) → TurnsTo {U = U} A m s c before after Seen (Ok u)
 turn_told U A m s what got fault job mid c before after Seen became u b w written seen =
     (record { what = what; job = job; got = got; fault = fault; became = became }, w.0, record { mid = mid; begins = b; closes = w.1 }, w.2, written, seen)
 
-pub turn_untold : {M : Medium} (U : Type 0) (A : Agreements) (m : ℕ) (s : State) (what : Next) (got : TryAnswer) (fault : LinkFault) (job : Job) (mid : State) (c : Standing M) (before after : Option (List ℕ)) (Seen : Text → List Exchange → Type 0) (became : Became) (part missing : Text)
+pub turn_untold : {M : Medium} (U : Type 0) (A : Agreements) (m : ℕ) (s : State) (what : Next) (got : TryAnswer) (fault : LinkFault) (job : Job)
+    (mid : State) (c : Standing M) (before after : Option (List ℕ)) (Seen : Text → List Exchange → Type 0) (became : Became) (part missing : Text)
     → BeginsTry A m s what job mid → ClosesTo A m s what (record { job = job; got = got }) mid c (Ok became) → turn_line what became ≡ part ++ missing
     → Appends before after part → Seen [] (record { job = job; got = got } ∷ [])
     → TurnsTo {U = U} A m s c before after Seen (Err sent.Unwritten)
@@ -114,7 +127,13 @@ turn_untold U A m s what got fault job mid c before after Seen became part missi
   _,
   w.0,
   part,
-  record { turn = record { what = what; job = job; got = got; fault = fault; became = became }; takes = record { mid = mid; begins = b; closes = w.1 }; are = refl; missing = missing; cut = cut },
+  record {
+    turn = record { what = what; job = job; got = got; fault = fault; became = became };
+    takes = record { mid = mid; begins = b; closes = w.1 };
+    are = refl;
+    missing = missing;
+    cut = cut;
+  },
   w.2,
   written,
   subst (Seen []) (sym (one_made what job got m)) made,
@@ -145,7 +164,8 @@ refused_run A m s t last r (at_outcome_refused what job got mid b h are) = subst
 failed_run : (A : Agreements) (m : ℕ) (s t : State) (last : Trace) (f : StoreFault) → may_come f ≡ true → SendingFails A m s last t f → Run A s last t
 failed_run A m s t last f may (at_next_failed same none) = subst (λ (x : Trace). Run A s x t) (sym none) same
 failed_run A m s t last f may (at_begin_failed what is same are) = subst (λ (x : Trace). Run A s x t) (sym are) (λ full. absurd (not_full f may full), same)
-failed_run A m s t last f may (at_outcome_failed what job got b are) = subst (λ (x : Trace). Run A s x t) (sym are) (t, b.begun, (λ full. absurd (not_full f may full), refl))
+failed_run A m s t last f may (at_outcome_failed what job got b are) =
+    subst (λ (x : Trace). Run A s x t) (sym are) (t, b.begun, (λ full. absurd (not_full f may full), refl))
 
 end_run : (A : Agreements) (m : ℕ) (s t : State) (last : Trace) (text : Text) (end : Sent) → SendingEnds A m s last t text end → Run A s last t
 end_run A m s t last text sent.Done e = subst (λ (x : Trace). Run A s x t) (sym e.2) e.1
@@ -156,7 +176,8 @@ end_run A m s t last text sent.Unwritten e = subst (λ (x : Trace). Run A s x t)
 -- ---- all turns
 
 -- the turns so far
-pub record SentSoFar {M : Medium} (A : Agreements) (m : ℕ) (s : State) (c : Standing M) (before now : Option (List ℕ)) (Seen : Text → List Exchange → Type 0) : Type 0 where
+pub record SentSoFar {M : Medium} (A : Agreements) (m : ℕ) (s : State) (c : Standing M) (before now : Option (List ℕ))
+    (Seen : Text → List Exchange → Type 0) : Type 0 where
   pub done : List Turn
   pub mid : State
   pub all : TakesTurns A m s done mid
@@ -232,16 +253,19 @@ module _ {L : Type 0} (answers : L → Job → TryAnswer → L → Type 0) where
     exchanges_more first second third made more one.1 other.1,
   )
 
-module _ {M : Medium} (U : Type 0) (A : Agreements) (m : ℕ) (s : State) (c d : Standing M) (before now later : Option (List ℕ)) (So Behind Then : Text → List Exchange → Type 0) (joins : Joins So Behind Then) where
+module _ {M : Medium} (U : Type 0) (A : Agreements) (m : ℕ) (s : State) (c d : Standing M) (before now later : Option (List ℕ))
+    (So Behind Then : Text → List Exchange → Type 0) (joins : Joins So Behind Then) where
   pub sends_on : (u : U) (w : SentSoFar A m s c before now So) → TurnsTo {U = U} A m w.mid d now later Behind (Ok u) → SentSoFar A m s d before later Then
   sends_on u w x = record {
     done = w.done ++ x.0 ∷ [];
     mid = x.1;
     all = all_more A m s w.mid x.1 w.done x.0 w.all x.2;
     rests = x.3;
-    written = subst (Appends before later) (sym (lines_more m w.done x.0)) (Appends-trans before now later (trace_lines (turn_events m w.done)) (turn_line x.0.what x.0.became) w.written x.4);
+    written = subst (Appends before later) (sym (lines_more m w.done x.0))
+        (Appends-trans before now later (trace_lines (turn_events m w.done)) (turn_line x.0.what x.0.became) w.written x.4);
     seen = subst (λ (made : List Exchange). Then (hints (w.done ++ x.0 ∷ [])) made) (sym (map-append exchanged_by w.done (x.0 ∷ [])))
-        (subst (λ (text : Text). Then text (map exchanged_by w.done ++ exchanged_by x.0 ∷ [])) (sym (hints_more w.done x.0)) (joins (hints w.done) (hint_of x.0) (map exchanged_by w.done) (exchanged_by x.0 ∷ []) w.seen x.5));
+        (subst (λ (text : Text). Then text (map exchanged_by w.done ++ exchanged_by x.0 ∷ [])) (sym (hints_more w.done x.0))
+        (joins (hints w.done) (hint_of x.0) (map exchanged_by w.done) (exchanged_by x.0 ∷ []) w.seen x.5));
   }
 
   pub sends_ended : (end : Sent) (w : SentSoFar A m s c before now So) → TurnsTo {U = U} A m w.mid d now later Behind (Err end) → (t : State) × d.Rests t
@@ -260,7 +284,8 @@ module _ {M : Medium} (U : Type 0) (A : Agreements) (m : ℕ) (s : State) (c d :
       by_history = ends_by_history A s (turn_events m w.done ++ x.0) x.1 (all_run A m s w.mid x.1 w.done x.0 w.all (end_run A m w.mid x.1 x.0 x.2 end x.3));
       written = Appends-trans before now later (trace_lines (turn_events m w.done)) x.2 w.written x.5;
       seen = subst (λ (made : List Exchange). Then (hints w.done) made) (sym (exchanges_of m w.done x.0))
-          (subst (λ (text : Text). Then text (map exchanged_by w.done ++ exchanges x.0)) (append-nil (hints w.done)) (joins (hints w.done) [] (map exchanged_by w.done) (exchanges x.0) w.seen x.6));
+          (subst (λ (text : Text). Then text (map exchanged_by w.done ++ exchanges x.0)) (append-nil (hints w.done))
+          (joins (hints w.done) [] (map exchanged_by w.done) (exchanges x.0) w.seen x.6));
     },
   )
 

@@ -22,7 +22,8 @@ returns-clause-serves g c = λ clean s rests input is.
         serves = rw (sym c.new-sink.ensures.inner, c.into_inner.ensures)
             (subst (λ (n : ℕ). Serves c.args.agreements.now c.args.moment s served.0 input unread
             (sink_and_journal (g.W.Write.contents c.new-sink.result.inner) (g.J.Journal.noted c.args.journal.now))
-            (sink_and_journal (g.W.Write.contents c.serve_stream-end.new.sink.inner) (g.J.Journal.noted c.serve_stream-end.new.journal)) n reads c.serve_stream-end.result)
+            (sink_and_journal (g.W.Write.contents c.serve_stream-end.new.sink.inner)
+            (g.J.Journal.noted c.serve_stream-end.new.journal)) n reads c.serve_stream-end.result)
             c.new-source.ensures.calls served.2);
       },
     )

@@ -14,7 +14,8 @@ use Rattle.as2_desk.proofs.desk.run.Goals as goal
 pub returns-in-Ok-clause-unread : goal.returns-in-Ok-clause-unread
 returns-in-Ok-clause-unread g c = λ none.
     let read = c.in-Ok.options in
-    absurd {A = (c.carry_out-done.new.console.input ≡ c.args.console.now.input) × (c.carry_out-done.new.host.stores ≡ c.args.host.now.stores) × (c.carry_out-done.new.host.outside ≡ c.args.host.now.outside)} (none read.agreements.now read.store.now read.task c.in-Ok.ensures.given)
+    absurd {A = (c.carry_out-done.new.console.input ≡ c.args.console.now.input) × (c.carry_out-done.new.host.stores ≡ c.args.host.now.stores)
+    × (c.carry_out-done.new.host.outside ≡ c.args.host.now.outside)} (none read.agreements.now read.store.now read.task c.in-Ok.ensures.given)
 
 pub returns-in-Ok-clause-runs : goal.returns-in-Ok-clause-runs
 returns-in-Ok-clause-runs g c = λ path store task gives.
@@ -32,7 +33,8 @@ returns-in-Ok-clause-runs g c = λ path store task gives.
       listening = listening_of g.N.Network g.N.Listener.Listens c.args.host.now.outside.network c.carry_out-done.new.host.outside.network;
     })
     (stored_of g.O.OpenStores was is b) c.carry_out-done.result)
-    c.in-Ok.ensures.given gives (record { opened = c.agreements_in-agreed.result.0; opens = c.agreements_in-agreed.ensures; comes = c.carry_out-done.ensures.comes }))
+    c.in-Ok.ensures.given gives
+    (record { opened = c.agreements_in-agreed.result.0; opens = c.agreements_in-agreed.ensures; comes = c.carry_out-done.ensures.comes }))
 
 pub returns-in-Ok-clause-memory : goal.returns-in-Ok-clause-memory
 returns-in-Ok-clause-memory g c = λ path task gives.

@@ -16,7 +16,8 @@ returns-clause-posts g c = λ known stood. (
     cause = c.serve_input-end.ensures.cause;
     posts = each_known _ _ known stood (λ s it. c.serve_input-end.ensures.posts it.0 s it.1);
     serves = each_known _ _ known stood (λ s it. c.serve_input-end.ensures.serves it.0 s it.1);
-    told = subst (λ (e : g.row.E.Denot). Ends (exit_status c.serve_input-end.result.0) (end_line c.serve_input-end.result.0) (written_of g.E.Sink e c.tell_end.new.errors) c.tell_end.result) c.serve_input-end.ensures.errors c.tell_end.ensures;
+    told = subst (λ (e : g.row.E.Denot). Ends (exit_status c.serve_input-end.result.0) (end_line c.serve_input-end.result.0)
+        (written_of g.E.Sink e c.tell_end.new.errors) c.tell_end.result) c.serve_input-end.ensures.errors c.tell_end.ensures;
   },
   refl,
   (c.serve_input-end.new.console.hints, c.serve_input-end.result.1, refl, c.serve_input-end.ensures.silent, c.is_busy_told.ensures.none),

@@ -21,7 +21,8 @@ loop-served-preserved g c =
     let given : c.serving.inside.moment ≡ c.args.serving.now.moment = ap (λ (v : GivenServing). v.moment) c.serving.view_is in (
       streams.0 ∙ before.0,
       streams.1 ∙ before.1,
-      one_more g.L.Listens.ended c.args.serving.now.moment c.args.terms.now.agreements.now g.W.Sink c.loop-served.served (g.K.Records.shows c.args.station.now) then now
+      one_more g.L.Listens.ended c.args.serving.now.moment c.args.terms.now.agreements.now g.W.Sink c.loop-served.served
+          (g.K.Records.shows c.args.station.now) then now
           c.args.listener.now mid last c.args.console.now.output c.loop-served.console.output c.serve_next.new.console.output
           before.2 c.serve_next.ensures.clean
           (subst (λ (m : Option ℕ). ServesNext then now (λ end. (trace : Trace) × g.L.Listens.ended mid m trace end last)
@@ -38,7 +39,8 @@ returns-in-Err-clause-serves g c =
     let now = g.K.Records.shows c.serve_next.new.station in
     let given : c.serving.inside.moment ≡ c.args.serving.now.moment = ap (λ (v : GivenServing). v.moment) c.serving.view_is in
     let count : c.serving.inside.count ≡ c.args.serving.now.count = ap (λ (v : GivenServing). v.count) c.serving.view_is in
-    cut g.L.Listens.ended c.args.serving.now.moment c.args.terms.now.agreements.now g.W.Sink c.loop-served.served (g.K.Records.shows c.args.station.now) then now
+    cut g.L.Listens.ended c.args.serving.now.moment c.args.terms.now.agreements.now g.W.Sink c.loop-served.served
+    (g.K.Records.shows c.args.station.now) then now
     c.args.listener.now mid last c.args.console.now.output c.loop-served.console.output c.serve_next.new.console.output
     c.loop-served.invariant.2 c.serve_next.ensures.clean
     c.args.serving.now.count c.in-Err.stop

@@ -13,7 +13,13 @@ returns-in-Send-clause-does g c = rw c.in-Send.is (λ known stood.
       c.send_due-ran.ensures.unread,
       record {
         end = it.end;
-        sends = each_known _ _ known it.sends (λ s w. (w.0, w.1, unhinted _ _ _ _ _ _ _ _ _ (λ text made all. (c.links-links.result, c.send_due-ran.new.links, c.links-links.new.self, c.links-links.ensures, all, c.close.ensures)) w.2));
+        sends = each_known _ _ known it.sends
+            (λ s w. (
+              w.0,
+              w.1,
+              unhinted _ _ _ _ _ _ _ _ _
+                  (λ text made all. (c.links-links.result, c.send_due-ran.new.links, c.links-links.new.self, c.links-links.ensures, all, c.close.ensures)) w.2,
+            ));
         unwritten = it.unwritten;
         sound = it.sound;
         told = it.told;

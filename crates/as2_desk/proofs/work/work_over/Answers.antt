@@ -18,7 +18,8 @@ returns-then-eq-clause-goes g c =
     let stores = c.args.host.now.stores in
     let opens = g.O.OpenStores.opens stores in
     let is : is_in_memory path ≡ true = sym c.eq.ensures ∙ c.if-eq.true in
-    goes_in_memory g.O.InMemory.Records.shows c.args.terms.now.agreements.now (record { first = c.args.store.first; moment = c.args.terms.now.moment; limit = c.args.store.limit }) c.args.work
+    goes_in_memory g.O.InMemory.Records.shows c.args.terms.now.agreements.now
+    (record { first = c.args.store.first; moment = c.args.terms.now.moment; limit = c.args.store.limit }) c.args.work
     (record {
       input = input_of g.R.Source c.args.console.now c.do_over.new.console;
       outcome = console_outcome g.W.Sink g.E.Sink c.args.console.now c.do_over.new.console (Leaves path (g.O.OpenStores.keeps stores path));
@@ -31,7 +32,8 @@ returns-then-eq-clause-goes g c =
     c.do_over.result.0 c.do_over.result.1 c.open_in_memory-records.result c.open_in_memory-records.ensures c.do_over.ensures.fails c.do_over.ensures.does
     (λ fault may. subst (λ (b : Bool). ByPlace b (MayCome fault) (g.O.OpenStores.fails stores path fault)) (sym is) may)
     refl (λ number s kept. kept) (subst (λ (b : Bool). opens ≡ opens + opens_at b) (sym is) (omega arith))
-    (λ s from. subst (λ (b : Bool). ByPlace b (s ≡ empty (LaterVersion 0) first) (g.O.OpenStores.keeps stores path first s × g.O.OpenStores.is_clean stores)) is from)
+    (λ s from. subst (λ (b : Bool). ByPlace b (s ≡ empty (LaterVersion 0) first)
+    (g.O.OpenStores.keeps stores path first s × g.O.OpenStores.is_clean stores)) is from)
     (λ t. subst (λ (b : Bool). ByPlace b ⊤ ((number : ℕ) → g.O.OpenStores.keeps stores path number t)) (sym is) tt)
 
 -- no records could be opened: the stores are as the opening left them
@@ -56,7 +58,8 @@ returns-clause-goes g c =
     let opens = g.O.OpenStores.opens stores in
     let Clean = g.O.OpenStores.is_clean stores in
     let is : is_in_memory path ≡ false = sym c.eq.ensures ∙ c.if-eq.false in
-    goes_kept (λ b. g.O.Opened.Records.shows b.records) c.args.terms.now.agreements.now (record { first = c.args.store.first; moment = c.args.terms.now.moment; limit = c.args.store.limit }) c.args.work
+    goes_kept (λ b. g.O.Opened.Records.shows b.records) c.args.terms.now.agreements.now
+    (record { first = c.args.store.first; moment = c.args.terms.now.moment; limit = c.args.store.limit }) c.args.work
     (record {
       input = input_of g.R.Source c.args.console.now c.do_over-left.new.console;
       outcome = console_outcome g.W.Sink g.E.Sink c.args.console.now c.do_over-left.new.console (Leaves path (g.O.OpenStores.keeps stores path));
@@ -69,7 +72,11 @@ returns-clause-goes g c =
     c.do_over-left.result.0 c.do_over-left.result.1 c.open_in-records.result Clean (g.O.OpenStores.keeps was path first) opened opens
     c.open_in-records.ensures.found c.do_over-left.ensures.fails c.do_over-left.ensures.does
     (λ none. not_opened g.O.OpenStores was c.open_in-records.new.stores stores path c.open_in-records.result is c.open_in-records.ensures.fault c.open_in-records.ensures.same (c.close_in-refused.ensures.none none).0)
-    (c.close_in-refused.ensures.counted ∙ c.open_in-records.ensures.counted) (λ same. same) (λ more. subst (λ (b : Bool). opens ≡ opened + opens_at b) (sym is) more)
+    (c.close_in-refused.ensures.counted ∙ c.open_in-records.ensures.counted) (λ same. same)
+    (λ more. subst (λ (b : Bool). opens ≡ opened + opens_at b) (sym is) more)
     (λ s from. subst (λ (b : Bool). ByPlace b (s ≡ empty (LaterVersion 0) first) (g.O.OpenStores.keeps was path first s × Clean)) is from)
     c.close_in-refused.ensures.clean
-    (each_left c.do_over-left.result.1 Clean (λ l t. (g.O.Opened.Records.shows l.records).Rests t) (λ t. (number : ℕ) → g.O.OpenStores.keeps stores path number t) (Leaves path (g.O.OpenStores.keeps stores path)) c.close_in-refused.ensures.kept (λ t keeps. subst (λ (b : Bool). ByPlace b ⊤ ((number : ℕ) → g.O.OpenStores.keeps stores path number t)) (sym is) keeps))
+    (each_left c.do_over-left.result.1 Clean (λ l t. (g.O.Opened.Records.shows l.records).Rests t)
+    (λ t. (number : ℕ) → g.O.OpenStores.keeps stores path number t)
+    (Leaves path (g.O.OpenStores.keeps stores path)) c.close_in-refused.ensures.kept
+    (λ t keeps. subst (λ (b : Bool). ByPlace b ⊤ ((number : ℕ) → g.O.OpenStores.keeps stores path number t)) (sym is) keeps))

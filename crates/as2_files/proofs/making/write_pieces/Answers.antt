@@ -14,7 +14,8 @@ loop-i-preserved g c =
       | in-Some+in_ok-write_all w ↦
           let found : piece_at content c.loop-i.i ≡ Some w.in-Some.piece.now = sym c.piece.ensures ∙ ap (option_map (λ b. b.now)) w.in-Some.is in
           subst (λ (t : g.row.W.Denot). Appends before (g.W.Write.contents t) (front (c.loop-i.i + 1) content)) (sym w.to-is)
-          (piece_written c.loop-i.i content w.in-Some.piece.now before (g.W.Write.contents c.loop-i.to) (g.W.Write.contents w.write_all.new.self) found c.loop-i.invariant w.in_ok-write_all.ensures.bytes)
+          (piece_written c.loop-i.i content w.in-Some.piece.now before (g.W.Write.contents c.loop-i.to)
+          (g.W.Write.contents w.write_all.new.self) found c.loop-i.invariant w.in_ok-write_all.ensures.bytes)
       | in_default w ↦
           let none : piece_at content c.loop-i.i ≡ None = sym c.piece.ensures ∙ ap (option_map (λ b. b.now)) w.in_default.is in
           subst (λ (t : g.row.W.Denot). Appends before (g.W.Write.contents t) (front (c.loop-i.i + 1) content)) (sym w.to-is)

@@ -4,4 +4,5 @@ use Rattle.as2_http.proofs.exchanging.exchange.Goals as goal
 
 -- no read is made behind a request that wasn't written whole
 pub returns-then-is_err-clause-needed : goal.returns-then-is_err-clause-needed
-returns-then-is_err-clause-needed g c = λ input known. reads_none IsOpenAnswer input (g.R.Source.left c.args.source.now) (g.R.Source.calls c.args.source.now) known
+returns-then-is_err-clause-needed g c =
+    λ input known. reads_none IsOpenAnswer input (g.R.Source.left c.args.source.now) (g.R.Source.calls c.args.source.now) known

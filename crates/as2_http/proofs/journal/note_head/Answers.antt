@@ -22,4 +22,5 @@ returns g c =
     let e : Appends three four (codes " ") = search rules in
     let f : Appends four five identifier = search rules in
     Appends-trans before four five (from ++ codes " " ++ to ++ codes " ") identifier
-    (Appends-trans before three four (from ++ codes " " ++ to) (codes " ") (Appends-trans before two three (from ++ codes " ") to (Appends-trans before one two from (codes " ") a b) d) e) f
+    (Appends-trans before three four (from ++ codes " " ++ to) (codes " ")
+    (Appends-trans before two three (from ++ codes " ") to (Appends-trans before one two from (codes " ") a b) d) e) f

@@ -15,6 +15,10 @@ invariant-loop g l =
     × (g.R.Source.failed l.source ≡ g.R.Source.failed l.fn.source)
     × (g.W.Sink.failed l.sink ≡ g.W.Sink.failed l.fn.sink)
     × ((held : List ℕ) × HasTaken l.parser held)
-    × ((g.K.Records.shows l.station).IsClean → (s : State) → (g.K.Records.shows l.fn.station).Rests s → (input : List ℕ) → g.R.Source.left l.fn.source ≡ Some input
-    → BetweenReads l.agreements l.moment s input l.parser (g.K.Records.shows l.station) (g.R.Source.left l.source) (sink_and_journal (g.W.Sink.written l.fn.sink) (g.J.Journal.noted l.fn.journal)) (sink_and_journal (g.W.Sink.written l.sink) (g.J.Journal.noted l.journal)) (g.R.Source.calls l.fn.source) (g.R.Source.calls l.source))
-    × ((g.K.Records.shows l.station).IsClean → (s : State) → (g.K.Records.shows l.fn.station).Rests s → TakenSoFar l.agreements l.moment s (g.K.Records.shows l.station))
+    × ((g.K.Records.shows l.station).IsClean → (s : State) → (g.K.Records.shows l.fn.station).Rests s → (input : List ℕ)
+    → g.R.Source.left l.fn.source ≡ Some input
+    → BetweenReads l.agreements l.moment s input l.parser (g.K.Records.shows l.station) (g.R.Source.left l.source)
+    (sink_and_journal (g.W.Sink.written l.fn.sink) (g.J.Journal.noted l.fn.journal))
+    (sink_and_journal (g.W.Sink.written l.sink) (g.J.Journal.noted l.journal)) (g.R.Source.calls l.fn.source) (g.R.Source.calls l.source))
+    × ((g.K.Records.shows l.station).IsClean → (s : State) → (g.K.Records.shows l.fn.station).Rests s
+    → TakenSoFar l.agreements l.moment s (g.K.Records.shows l.station))

@@ -31,6 +31,8 @@ returns-clause-left g c clean opened A layout s rests =
     let tried = c.try_migration-is_answered.result in
     let was : HasCleanDisk (file_state tried.1) = omega (arith, c.into_store.ensures.quiet.clean) in
     ∥∥₁_map
-    (found_after last c.close-files.result.log c.close-files.result.db (sym c.close-files.ensures) honest (c.into_store.ensures.numbered none) (c.into_store.ensures.sound none) _ (c.crash.ensures.left, c.crash-2.ensures.left))
-    (λ m. either A tried.0 layout (file_state c.args.earlier) (file_state tried.1) s c.try_migration-is_answered.ensures was opened (λ db may. settled_at c.args.earlier.store g.met.D.Disk.seen_may_stay db opened may) rests _ m.0 m.2
+    (found_after last c.close-files.result.log c.close-files.result.db (sym c.close-files.ensures) honest (c.into_store.ensures.numbered none)
+    (c.into_store.ensures.sound none) _ (c.crash.ensures.left, c.crash-2.ensures.left))
+    (λ m. either A tried.0 layout (file_state c.args.earlier) (file_state tried.1) s c.try_migration-is_answered.ensures was opened
+    (λ db may. settled_at c.args.earlier.store g.met.D.Disk.seen_may_stay db opened may) rests _ m.0 m.2
     (c.into_store.ensures.quiet.outcomes m.0 m.1))

@@ -12,15 +12,18 @@ returns-in-Ok-Ok-clause-begun g c = λ clean s rests is.
     let A = c.args.agreements.now in
     let new = g.K.Records.shows c.begin.new.self in
     let taken = c.in-Ok-Ok.ensures.taken in
-    let left = subst (λ (said : Result Job Refusal). LeavesAnswered new (step A s (begin_event c.args.what c.args.moment)) (said_to_begin said)) c.in-Ok-Ok.field-0-is (taken.does.answered clean s rests tt) in
+    let left = subst (λ (said : Result Job Refusal). LeavesAnswered new (step A s (begin_event c.args.what c.args.moment))
+    (said_to_begin said)) c.in-Ok-Ok.field-0-is (taken.does.answered clean s rests tt) in
     let opened = taken.does.is_open clean (begin_asks A c.args.moment c.args.what) in
-    begins_to A c.args.moment s c.args.what new c.in-Ok-Ok.job left.next is left.step left.rests (record { is_open = opened; lasts = taken.lasts opened left.next left.rests })
+    begins_to A c.args.moment s c.args.what new c.in-Ok-Ok.job left.next is left.step left.rests
+    (record { is_open = opened; lasts = taken.lasts opened left.next left.rests })
 
 pub returns-in-Ok-Err-clause-begun : goal.returns-in-Ok-Err-clause-begun
 returns-in-Ok-Err-clause-begun g c = λ clean s rests is.
     let A = c.args.agreements.now in
     let new = g.K.Records.shows c.begin.new.self in
-    let left = subst (λ (said : Result Job Refusal). LeavesAnswered new (step A s (begin_event c.args.what c.args.moment)) (said_to_begin said)) c.in-Ok-Err.field-0-is (c.in-Ok-Err.ensures.taken.does.answered clean s rests tt) in
+    let left = subst (λ (said : Result Job Refusal). LeavesAnswered new (step A s (begin_event c.args.what c.args.moment))
+    (said_to_begin said)) c.in-Ok-Err.field-0-is (c.in-Ok-Err.ensures.taken.does.answered clean s rests tt) in
     begin_refused A c.args.moment s c.args.what new c.in-Ok-Err.reason left.next is left.step left.rests
 
 pub returns-in-Err-clause-begun : goal.returns-in-Err-clause-begun
