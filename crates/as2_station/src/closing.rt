@@ -25,12 +25,11 @@ use as2_records::{Progress, Records};
 use as2_text::{Head, Memory, Moment};
 use std::alloc::Global;
 
-/// An HTTP answer.
+/// The status and the head of an HTTP answer.
 #[derive(Drop)]
-struct HttpReply {
+struct AnswerHead<'a> {
     status: u16,
-    head: Head,
-    body: Pieces,
+    head: &'a Head,
 }
 
 /// How a try of a document ends.
@@ -127,25 +126,24 @@ fn by_reply(
     terms: &Terms<'_>,
     partner: &Partner,
     document: &OutEntry,
-    reply: HttpReply,
+    answered: &AnswerHead<'_>,
+    body: Pieces,
 ) -> Result<End, Memory>
     requires terms { IsPartner partner.now }
     ensures { IfOk result (λ end. ended_document end document.now
-        ≡ closed_by partner.now (Reply reply.status reply.head reply.body) terms.now.moment document.now
+        ≡ closed_by partner.now (Reply answered.now.status answered.now.head.now body) terms.now.moment document.now
         (option_and_then (if_for document.now)
-        (receipt_in_answer AllDigests (Reply reply.status reply.head reply.body)))) }
+        (receipt_in_answer AllDigests (Reply answered.now.status answered.now.head.now body)))) }
 {
-    let HttpReply { status, head, body } = reply;
-    let moment = terms.moment;
-    if !is_success(status) {
-        return Ok(End::Failed(after_failure(partner, document, moment)));
+    if !is_success(answered.status) {
+        return Ok(End::Failed(after_failure(partner, document, terms.moment)));
     }
-    let Some(opened) = open_answer(&head) else {
-        return Ok(without_receipt(partner, document, moment));
+    let Some(opened) = open_answer(answered.head) else {
+        return Ok(without_receipt(partner, document, terms.moment));
     };
-    match by_receipt(terms.alloc, &opened, body, document, moment)? {
+    match by_receipt(terms.alloc, &opened, body, document, terms.moment)? {
         Some(end) => Ok(end),
-        None => Ok(without_receipt(partner, document, moment)),
+        None => Ok(without_receipt(partner, document, terms.moment)),
     }
 }
 
@@ -164,7 +162,11 @@ fn end_of(
     match answer {
         TryAnswer::NoAnswer => Ok(End::Failed(after_failure(partner, document, terms.moment))),
         TryAnswer::Reply { status, head, body } => {
-            by_reply(terms, partner, document, HttpReply { status, head, body })
+            let answered = AnswerHead {
+                status,
+                head: &head,
+            };
+            by_reply(terms, partner, document, &answered, body)
         }
     }
 }

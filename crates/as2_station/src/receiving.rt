@@ -20,9 +20,9 @@ use as2_text::without_brackets;
 
 /// A posted receipt that could be read, and the head that it came with.
 #[derive(Drop)]
-struct NamedReceipt<'a> {
-    opened: &'a Opened<'a>,
-    receipt: &'a Receipt<'a>,
+struct NamedReceipt<'o, 'h, 'r, 't> {
+    opened: &'o Opened<'h>,
+    receipt: &'r Receipt<'t>,
 }
 
 /// Whether the receipt is for the document, and that was begun.
@@ -51,7 +51,7 @@ fn taken() -> HttpAnswer
 fn settle_named<R: Records>(
     records: &mut R,
     terms: &Terms<'_>,
-    named: &NamedReceipt<'_>,
+    named: &NamedReceipt<'_, '_, '_, '_>,
     body: Pieces,
     document: &OutEntry,
 ) -> Result<HttpAnswer, StoreFault>
