@@ -224,13 +224,18 @@ def paths(runner):
     runner.run("a good store", "post", text=post_of(b"good"), store="good.db")
     os.symlink("good.db", path("to-good.db"))
     os.link(path("good.db"), path("second.db"))
-    for name in ("folder", "to-nothing.db", "to-itself.db", "to-folder.db", "second.db"):
+    for name in ("folder", "to-nothing.db", "to-itself.db", "to-folder.db"):
         runner.want(f"a store that is {name}", 3, "store: Refused", "list", "in", hint=NO_FILE, store=name)
     for name in ("absent/x.db", "good.db/x.db"):
         runner.want(f"a store that is {name}", 3, "store: Refused", "list", "in", hint=NO_FOLDER, store=name)
+    # (of a store that is there the kit tells only that it can't be opened: no hint says why)
+    runner.want("a store that is second.db", 3, "store: Refused", "list", "in", store="second.db")
     write(runner.desk, "good.db-journal", b"journal")
-    runner.want("a store with a journal of SQLite's", 3, "store: Refused", "list", "in", hint=JOURNAL, store="good.db")
+    runner.want("a store with a journal of SQLite's", 3, "store: Refused", "list", "in", store="good.db")
     os.remove(path("good.db-journal"))
+    write(runner.desk, "fresh.db.new-journal", b"journal")
+    runner.want("a draft with a journal of SQLite's", 3, "store: Refused", "list", "in", hint=JOURNAL, store="fresh.db")
+    os.remove(path("fresh.db.new-journal"))
     os.remove(path("second.db"))
     runner.run("a store behind a link", "list", "in", store="to-good.db")
     runner.run("a store with a long name", "list", "in", store="x" * 300)
@@ -387,7 +392,8 @@ def rights(runner):
         os.chmod(os.path.join(folder, "there.db"), file_mode)
         os.chmod(folder, mode)
         for command in (["list", "in"], ["post"], ["tick"]):
-            runner.want(f"{what}: {command[0]}", 3, "store: Refused", *command, hint=NO_RIGHT, store="shut/there.db", text=post_of(b"shut") if command == ["post"] else b"", **more)
+            told = NO_RIGHT if 0o000 in (mode, file_mode) else None
+            runner.want(f"{what}: {command[0]}", 3, "store: Refused", *command, hint=told, store="shut/there.db", text=post_of(b"shut") if command == ["post"] else b"", **more)
         if mode != 0o777:
             runner.want(f"{what}: a new store", 3, "store: Refused", "tick", hint=NO_RIGHT, store="shut/new.db", **more)
         os.chmod(folder, 0o755)
