@@ -55,7 +55,12 @@ content_type_found text h =
     let all = and_parts (nat_lt 0 (length text) && nat_le (length text) 255 && list_all is_printable text) (is_document_type (media_type_reading text)) h in
     let front = and_parts (nat_lt 0 (length text) && nat_le (length text) 255) (list_all is_printable text) all.0 in
     let ends = and_parts (nat_lt 0 (length text)) (nat_le (length text) 255) front.0 in
-    record { some = grind (arith, nat_tests); short = grind (arith, nat_tests); printable = front.1; document = type_found text (media_type_reading text) refl all.1 }
+    record {
+      some = grind (arith, nat_tests);
+      short = grind (arith, nat_tests);
+      printable = front.1;
+      document = type_found text (media_type_reading text) refl all.1;
+    }
 
 pub content_type_again : (text : List ℕ) → IsContentType text → is_content_type text ≡ true
 content_type_again text c =

@@ -26,7 +26,8 @@ module _ {X : Type 0} (name : X → List ℕ) where
   found_at [] x k d short here = absurd (omega (arith, short))
   found_at (y ∷ ys) x zero d short here = rw (ap (has (name x)) here ∙ nat_list_eq_equiv.refl (name x)) (ap Some here)
   found_at (y ∷ ys) x (suc k) d short here =
-      let differs : bytes_eq (name y) (name x) ≡ false = other (λ z. bytes_eq (name y) z ≡ false) ys x k (IsDistinct-head bytes_eq (name y) (map name ys) d) (omega (arith, short)) here in
+      let differs : bytes_eq (name y) (name x) ≡ false =
+      other (λ z. bytes_eq (name y) z ≡ false) ys x k (IsDistinct-head bytes_eq (name y) (map name ys) d) (omega (arith, short)) here in
       rw differs (found_at ys x k (IsDistinct-tail bytes_eq (name y) (map name ys) d) (omega (arith, short)) here)
 
   -- the member that has the name is found

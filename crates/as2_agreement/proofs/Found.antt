@@ -65,7 +65,12 @@ organizations_ok document os e =
     let r = each_read organization SaysOrganization IsOrganization organization_name [] organization_reads [] es os read nothing_distinct in
     let same : os ≡ r.new = r.whole in
     let len : length os ≡ items_len es = ap length same ∙ r.len in
-    record { says = (es, h.0, subst (SayEach SaysOrganization es) (sym same) r.says); good = subst (AllByRecursion IsOrganization) (sym same) r.good; few = omega (arith, len, h.1); distinct = r.distinct }
+    record {
+      says = (es, h.0, subst (SayEach SaysOrganization es) (sym same) r.says);
+      good = subst (AllByRecursion IsOrganization) (sym same) r.good;
+      few = omega (arith, len, h.1);
+      distinct = r.distinct;
+    }
 
 pub organizations_again : (document : Members) (os : List Organization) → AreOrganizations document os → organizations document ≡ Ok os
 organizations_again document os a =
@@ -91,7 +96,12 @@ partners_ok document os ps d e =
     let r = each_read (partner os) SaysPartner IsPartner partner_name (map organization_name os) (partner_reads os) [] es ps read alone in
     let same : ps ≡ r.new = r.whole in
     let len : length ps ≡ items_len es = ap length same ∙ r.len in
-    record { says = (es, h.0, subst (SayEach SaysPartner es) (sym same) r.says); good = subst (AllByRecursion IsPartner) (sym same) r.good; few = omega (arith, len, h.1); distinct = r.distinct }
+    record {
+      says = (es, h.0, subst (SayEach SaysPartner es) (sym same) r.says);
+      good = subst (AllByRecursion IsPartner) (sym same) r.good;
+      few = omega (arith, len, h.1);
+      distinct = r.distinct;
+    }
 
 pub partners_again : (document : Members) (os : List Organization) (ps : List Partner) → ArePartners document os ps → partners os document ≡ Ok ps
 partners_again document os ps a =
@@ -195,7 +205,14 @@ agreements_made document a e =
     let (os, organizations_read, e3) = bound (organizations document) _ a e2 in
     let (ps, partners_read, e4) = bound (partners os document) _ a e3 in
     let g = not_faulty (wants_return ps && is_none r) _ (record { domain = d; return_url = r; organizations = os; partners = ps }) a e4 in
-    subst (AreMade document) g.1 (record { domain_read = domain_read; return_url_read = return_url_read; organizations_read = organizations_read; partners_read = partners_read; returns = g.0 })
+    subst (AreMade document) g.1
+    (record {
+      domain_read = domain_read;
+      return_url_read = return_url_read;
+      organizations_read = organizations_read;
+      partners_read = partners_read;
+      returns = g.0;
+    })
 
 -- a fault of the partners is the one of the document
 pub partners_refused : (document : Members) (d : List ℕ) (r : Option (List ℕ)) (os : List Organization) (f : AgreementFault)

@@ -8,7 +8,8 @@ use Rattle.as2_agreement.specs.Places.{first_faulty}
 use Rattle.as2_agreement.specs.Reading.{OrFirstFault, each}
 use Rattle.as2_agreement.specs.declared.fault.AgreementFault.{AgreementFault}
 
-module _ {X : Type 0} (one : List X → Data → OrFirstFault X) (before : List X) (entries : List Value) (i : ℕ) (v : Value) (inside : i < length entries) (is : v ≡ get_or entries i v) where
+module _ {X : Type 0} (one : List X → Data → OrFirstFault X) (before : List X) (entries : List Value) (i : ℕ) (v : Value)
+    (inside : i < length entries) (is : v ≡ get_or entries i v) where
   here : items_view (drop i entries) ≡ items_view (v ∷ drop (i + 1) entries)
   here =
       let split : drop i entries ≡ v ∷ drop (i + 1) entries = drop-cons entries i v inside ∙ rw (← is, add-one i) refl in

@@ -32,9 +32,13 @@ organization_reads before d o e =
     let (entry, kind, read) = bound (of_kind key.Organization (as_table d)) _ o e in
     let (n, named, made) = bound (agreed_name (names before []) entry) _ o read in
     let h = name_ok (names before []) entry n named in
-    subst (λ (o : Organization). ((entry : Members) × (d ≡ table entry) × SaysOrganization entry o) × IsOrganization o × (list_any (bytes_eq o.name) ([] ++ map organization_name before) ≡ false))
-    (same_ok (record { name = n }) o made)
-    ((entry, as_table_ok d entry (of_kind_ok key.Organization (as_table d) entry kind), h.0), h.1, subst (λ (l : List (List ℕ)). list_any (bytes_eq n) l ≡ false) (names_alone before) h.2)
+    subst (λ (o : Organization). ((entry : Members) × (d ≡ table entry) × SaysOrganization entry o) × IsOrganization o
+    × (list_any (bytes_eq o.name) ([] ++ map organization_name before) ≡ false))
+    (same_ok (record { name = n }) o made) (
+      (entry, as_table_ok d entry (of_kind_ok key.Organization (as_table d) entry kind), h.0),
+      h.1,
+      subst (λ (l : List (List ℕ)). list_any (bytes_eq n) l ≡ false) (names_alone before) h.2,
+    )
 
 pub organization_again : Again organization SaysOrganization IsOrganization organization_name []
 organization_again before entry o says good absent =
@@ -53,18 +57,37 @@ module _ (os : List Organization) where
       let (t, at_tries, r6) = bound (count_of key.MaxTries tries_limit entry) _ p r5 in
       let (s, at_retry, r7) = bound (count_of key.RetrySeconds seconds_limit entry) _ p r6 in
       let (o, at_overdue, r8) = bound (count_of key.OverdueSeconds seconds_limit entry) _ p r7 in
-      let made : record { name = n; url = u; receipt = r; digest = a; content_type = c; max_tries = t; retry_seconds = s; overdue_seconds = o } ≡ p = same_ok _ p r8 in
+      let made : record {
+        name = n;
+        url = u;
+        receipt = r;
+        digest = a;
+        content_type = c;
+        max_tries = t;
+        retry_seconds = s;
+        overdue_seconds = o;
+      } ≡ p = same_ok _ p r8 in
       let h = name_ok (names os before) entry n named in
       let hu = url_ok entry u at_url in
       let hc = content_type_ok entry c at_type in
       let ht = count_ok key.MaxTries tries_limit entry t at_tries in
       let hs = count_ok key.RetrySeconds seconds_limit entry s at_retry in
       let ho = count_ok key.OverdueSeconds seconds_limit entry o at_overdue in
-      subst (λ (p : Partner). ((entry : Members) × (d ≡ table entry) × SaysPartner entry p) × IsPartner p × (list_any (bytes_eq p.name) (names os before) ≡ false)) made (
+      subst (λ (p : Partner). ((entry : Members) × (d ≡ table entry) × SaysPartner entry p) × IsPartner p
+      × (list_any (bytes_eq p.name) (names os before) ≡ false)) made (
         (
           entry,
           as_table_ok d entry (of_kind_ok key.Partner (as_table d) entry kind),
-          record { name = h.0; url = hu.0; receipt = receipt_ok entry r at_receipt; digest = digest_ok entry a at_digest; content_type = hc.0; max_tries = ht.0; retry_seconds = hs.0; overdue_seconds = ho.0 },
+          record {
+            name = h.0;
+            url = hu.0;
+            receipt = receipt_ok entry r at_receipt;
+            digest = digest_ok entry a at_digest;
+            content_type = hc.0;
+            max_tries = ht.0;
+            retry_seconds = hs.0;
+            overdue_seconds = ho.0;
+          },
         ),
         record { name = h.1; url = hu.1; content_type = hc.1; max_tries = ht.1; retry_seconds = hs.1; overdue_seconds = ho.1 },
         h.2,

@@ -29,14 +29,17 @@ module _ {M : Medium} {Row : Type 0} (from : State → List Row → Type 0) (fin
   pub begun : {A E : Type 0} (fits : State → A → Type 0) (old mid : Standing M) (a : A) (rows : List Row) (was : List Finding)
       → ((s : State) → old.Rests s → fits s a → from s rows)
       → Reads {A = A} {E = E} fits old mid (Ok a) → SoFar old mid was was 0 rows
-  begun fits old mid a rows was are read = read_ok fits (λ s _. AreFound from finds was was 0 rows s) old mid a rows (λ s rests is. record { read = are s rests is; found = sym (append-nil was) }) read
+  begun fits old mid a rows was are read =
+      read_ok fits (λ s _. AreFound from finds was was 0 rows s) old mid a rows
+      (λ s rests is. record { read = are s rests is; found = sym (append-nil was) }) read
 
   pub one_more : (more : State → Option Fault
       → Type 0) (old mid new : Standing M) (was now after : List Finding) (i : ℕ) (rows : List Row) (d : Row) (fault : Option Fault) → i < length rows
       → ((s : State) → from s rows → more s fault → after ≡ now ++ finds s (get_or rows i d))
       → SoFar old mid was now i rows → Reads {A = Option Fault} {E = StoreFault} more mid new (Ok fault) → SoFar old new was after (i + 1) rows
   one_more more old mid new was now after i rows d fault below found before read =
-      read_then (λ s _. AreFound from finds was now i rows s) (λ s (r : List Row). more s fault) (λ s _. AreFound from finds was after (i + 1) rows s) old mid new rows (Ok rows)
+      read_then (λ s _. AreFound from finds was now i rows s) (λ s (r : List Row). more s fault)
+      (λ s _. AreFound from finds was after (i + 1) rows s) old mid new rows (Ok rows)
       (λ s r rests first then. record {
         read = first.read;
         found = found s first.read then ∙ ap (λ (l : List Finding). l ++ finds s (get_or rows i d)) first.found
@@ -50,7 +53,8 @@ module _ {M : Medium} {Row : Type 0} (from : State → List Row → Type 0) (fin
       → Reads {A = B} {E = StoreFault} both old new (Ok b)
   all both old new was now i rows b whole then read =
       read_ok (λ s _. AreFound from finds was now i rows s) both old new rows b
-      (λ s rests is. then s is.read (is.found ∙ ap (λ (n : ℕ). was ++ flat_map (finds s) (take n rows)) whole ∙ ap (λ (l : List Row). was ++ flat_map (finds s) l) (take-length rows))) read
+      (λ s rests is. then s is.read
+      (is.found ∙ ap (λ (n : ℕ). was ++ flat_map (finds s) (take n rows)) whole ∙ ap (λ (l : List Row). was ++ flat_map (finds s) l) (take-length rows))) read
 
 -- a listing of all is of each document
 pub all_listed : (outbox : List OutEntry) → filter (is_in None) outbox ≡ outbox

@@ -57,7 +57,8 @@ given_success : (migrated : Bool) (r : Receipt) (content : Text) → gives migra
     → verdict AllDigests r content ≡ detail.Processed
 given_success migrated r content is =
     one_name (verdict AllDigests r content)
-    (either (is_detail (verdict AllDigests r content) detail.Processed) (migrated && is_by_late r.mic) (is_detail (verdict AllDigests (record r { mic = Unreadable }) content) detail.Processed) is
+    (either (is_detail (verdict AllDigests r content) detail.Processed) (migrated && is_by_late r.mic)
+    (is_detail (verdict AllDigests (record r { mic = Unreadable }) content) detail.Processed) is
     (λ other. unconfirmed r content (one_name _ other)))
 
 module _ (migrated : Bool) (d : OutEntry) (success : d.detail ≡ detail.Processed) where
@@ -65,24 +66,29 @@ module _ (migrated : Bool) (d : OutEntry) (success : d.detail ≡ detail.Process
   unfolding verdict
   read_one e kept None read is = cc
   read_one e kept (Some r) read is =
-      let rest = behind (not (bytes_eq (named_by r) (value_of d.id))) ReceiptOfAnother (if not (gives migrated r d.content d.detail) then Some DetailDiffers else None) is in
-      let given : gives migrated r d.content detail.Processed ≡ true = subst (λ (x : Detail). gives migrated r d.content x ≡ true) success (holds (gives migrated r d.content d.detail) DetailDiffers None rest) in
+      let rest = behind (not (bytes_eq (named_by r) (value_of d.id))) ReceiptOfAnother
+      (if not (gives migrated r d.content d.detail) then Some DetailDiffers else None) is in
+      let given : gives migrated r d.content detail.Processed ≡ true =
+      subst (λ (x : Detail). gives migrated r d.content x ≡ true) success (holds (gives migrated r d.content d.detail) DetailDiffers None rest) in
       record {
         evidence = e;
         kept = kept;
         receipt = r;
         read = read;
-        names = (bytes_eq-Decides (named_by r) (value_of d.id)).0 (holds (bytes_eq (named_by r) (value_of d.id)) ReceiptOfAnother (if not (gives migrated r d.content d.detail) then Some DetailDiffers else None) is);
+        names = (bytes_eq-Decides (named_by r) (value_of d.id)).0
+            (holds (bytes_eq (named_by r) (value_of d.id)) ReceiptOfAnother (if not (gives migrated r d.content d.detail) then Some DetailDiffers else None) is);
         confirms = (confirmed AllDigests r d.content).0 (given_success migrated r d.content given);
       }
 
   settled_one : (o : Option Evidence) → d.evidence ≡ o → settled_fault migrated d o ≡ None → HasConfirmingReceipt d
   settled_one None kept is =
-      let none : (if is_by_receipt detail.Processed then Some NoReceipt else None) ≡ None = subst (λ (x : Detail). (if is_by_receipt x then Some NoReceipt else None) ≡ None) success is in cc
+      let none : (if is_by_receipt detail.Processed then Some NoReceipt else None) ≡ None =
+      subst (λ (x : Detail). (if is_by_receipt x then Some NoReceipt else None) ≡ None) success is in cc
   settled_one (Some e) kept is =
       read_one e kept (kept_receipt e) refl
       (behind (not (is_idle d.attempt) || is_some d.due) StillWaits (receipt_fault migrated d (kept_receipt e))
-      (behind (not (is_by_receipt d.detail)) StrayReceipt (if not (is_idle d.attempt) || is_some d.due then Some StillWaits else receipt_fault migrated d (kept_receipt e)) is))
+      (behind (not (is_by_receipt d.detail)) StrayReceipt
+      (if not (is_idle d.attempt) || is_some d.due then Some StillWaits else receipt_fault migrated d (kept_receipt e)) is))
 
 pub passed : (migrated : Bool) (d : OutEntry) → sent_fault migrated d ≡ None → d.detail ≡ detail.Processed → HasConfirmingReceipt d
 passed migrated d is success =

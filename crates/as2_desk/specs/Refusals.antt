@@ -29,10 +29,12 @@ fault_name_line name (Some key) = codes "agreements: " ++ (name ++ (codes " " ++
 abbrev pub agreements_line : AgreementFault → List ℕ
 agreements_line fault = fault_name_line (fault_name fault) (fault_key fault)
 
+-- a row that is damaged is told as what the database refuses
 abbrev pub store_fault_name : StoreFault → List ℕ
 store_fault_name store_fault.Memory = codes "Memory"
 store_fault_name store_fault.Disk = codes "Disk"
 store_fault_name store_fault.Refused = codes "Refused"
+store_fault_name (store_fault.Damaged place) = codes "Refused"
 store_fault_name store_fault.Full = codes "Full"
 store_fault_name store_fault.NotAStore = codes "NotAStore"
 store_fault_name store_fault.OtherVersion = codes "OtherVersion"

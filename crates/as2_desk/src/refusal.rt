@@ -47,7 +47,7 @@ pub(crate) fn refusal_status(refusal: CommandFault) -> u8
     }
 }
 
-/// The name of a fault, as it is spelled in `StoreFault`.
+/// The name of a fault, as it is spelled in `StoreFault`; `Refused` where a row is damaged.
 fn store_fault_name(fault: StoreFault) -> &'static str
     ensures name { result.now ≡ store_fault_name fault }
     ensures short { length result.now ≤ 20 }
@@ -55,7 +55,7 @@ fn store_fault_name(fault: StoreFault) -> &'static str
     match fault {
         StoreFault::Memory => "Memory",
         StoreFault::Disk => "Disk",
-        StoreFault::Refused => "Refused",
+        StoreFault::Refused | StoreFault::Damaged(_) => "Refused",
         StoreFault::Full => "Full",
         StoreFault::NotAStore => "NotAStore",
         StoreFault::OtherVersion => "OtherVersion",

@@ -1,5 +1,9 @@
 -- A post that was recorded and comes again, also after a migration.
-use Rattle.std.proofs.Common.{◌≡◌, ◌⊎◌, inl, inr, ℕ, ◌+◌, ◌<◌, ◌≤◌, Bool, true, false, not, ◌&&◌, List, [], ◌∷◌, ◌++◌, map, Option, Some, None, refl, sym, ap, ◌∙◌, subst, arith}
+-- The plan: a post that was recorded is read alike later (`reading_alike`), its entry is still there (`found_later`), and what is read now
+-- repeats what was read then (`repeats_still`); so the answer is the one of that entry (`again`), and `repeat_law` joins these.
+-- A new field of a posted document belongs into `same_post` or into `same_result`, and `reading_alike` follows the reading of posts.
+use Rattle.std.proofs.Common.{◌≡◌, ◌⊎◌, inl, inr, ℕ, ◌+◌, ◌<◌, ◌≤◌, Bool, true, false, not, ◌&&◌, List}
+use Rattle.std.proofs.Common.{[], ◌∷◌, ◌++◌, map, Option, Some, None, refl, sym, ap, ◌∙◌, subst, arith}
 use Rattle.std.specs.Prelude.{option_map, is_some, if◌then◌else◌, nat_lt}
 use Rattle.std.specs.Option.{option_or}
 use Rattle.std.specs.List.{find}
@@ -8,7 +12,8 @@ use Rattle.std.proofs.lemmas.List.Folds.{find-append}
 use Rattle.std.proofs.lemmas.Option.{same_Some}
 use Rattle.as2_exchange.specs.Agreement.{Text, Agreements, is_organization, partner_of}
 use Rattle.as2_exchange.specs.Readings.{Head, MediaType, names_of, version_fits, type_of, is_report, report_in, id_of, ask_of}
-use Rattle.as2_exchange.specs.State.{Posted, InEntry, State, Digests, Version, LaterVersion, known_digests, origin_of, lasting_part, same_key, received_as, change_received}
+use Rattle.as2_exchange.specs.State.{Posted, InEntry, State, Digests, Version, LaterVersion, known_digests}
+use Rattle.as2_exchange.specs.State.{origin_of, lasting_part, same_key, received_as, change_received}
 use Rattle.as2_exchange.specs.Events.{Post, Answer, Words, IdUsedBefore, Line, BadNames, BadVersion, UnknownNames, BadType, BadId, BadAsk, UnreadableReceipt}
 use Rattle.as2_exchange.specs.Posts.{PostReading, Refuses, IsReceipt, IsDocument, needs, report_posted, document_posted, post_reading, same_post, repeats}
 use Rattle.as2_exchange.specs.Documents.{settle}
@@ -16,7 +21,8 @@ use Rattle.as2_exchange.specs.Lines.{http}
 use Rattle.as2_exchange.specs.Recording.{record_given, record_post, answer_to, requeued_by_repeat, first_entry}
 use Rattle.as2_exchange.specs.Step.{post, step}
 use Rattle.as2_exchange.specs.Run.{Trace, Run, AnEvent, AMigration, Answered, Failed, migrated_state}
-use Rattle.as2_exchange.proofs.Repeats.{RecordedOrSame, fresh, repeated, clash, left_is, recorded_posts, Grows, run_grows, find-lasting, key_same, post_itself, repeats_itself, settle_inbox, queued_lasting, map_append, changed_entries}
+use Rattle.as2_exchange.proofs.Repeats.{RecordedOrSame, fresh, repeated, clash, left_is, with_first, recorded_posts, Grows, run_grows, find-lasting}
+use Rattle.as2_exchange.proofs.Repeats.{key_same, post_itself, repeats_itself, settle_inbox, queued_lasting, map_append, changed_entries}
 use Rattle.as2_exchange.proofs.Equal.{post_key, received_one}
 use Rattle.as2_exchange.proofs.Steady.{step_steady}
 
@@ -92,20 +98,24 @@ run_origin A old (AMigration n ∷ rest) new run = on (run_origin A (migrated_st
 
 -- it is a document that no entry had the key of
 WasNew : Agreements → State → ℕ → Posted → Answer × State → Type 0
-WasNew A s m p y = (received_as s p ≡ None) × (y ≡ (answer_to A s.next_in p, record s { inbox = s.inbox ++ first_entry s.next_in m p ∷ []; next_in = s.next_in + 1 }))
+WasNew A s m p y = (received_as s p ≡ None) × (y ≡ (answer_to A s.next_in p, with_first s m p))
 
 new_document_is : (A : Agreements) (s : State) (m : ℕ) (p : Posted) (y : Answer × State) → s.next_in < y.1.next_in
     → RecordedOrSame A s m p (received_as s p) y → WasNew A s m p y
 unfolding WasNew
 new_document_is A s m p y grew (fresh none small is) = (none, is)
-new_document_is A s m p y grew (repeated e there same is) = absurd (let at : y.1.next_in ≡ s.next_in = ap (λ (z : Answer × State). z.1.next_in) is in omega arith)
+new_document_is A s m p y grew (repeated e there same is) =
+    absurd (let at : y.1.next_in ≡ s.next_in = ap (λ (z : Answer × State). z.1.next_in) is in omega arith)
 new_document_is A s m p y grew (clash e there other is) = absurd (let at : y.1.next_in ≡ s.next_in = ap (λ (z : State). z.next_in) is in omega arith)
 
 was_new : (A : Agreements) (s : State) (m : ℕ) (r : PostReading) (y : Answer × State) → post A s m r ≡ Some y → s.next_in < y.1.next_in → (p : Posted)
     × (r ≡ IsDocument p) × WasNew A s m p y
 unfolding record_post
 was_new A s m (Refuses line) y h grew = absurd (let at : s.next_in ≡ y.1.next_in = ap (λ (z : Answer × State). z.1.next_in) (same_Some _ y h) in omega arith)
-was_new A s m (IsReceipt r) y h grew = absurd (let at : (settle s m r).1.next_in ≡ y.1.next_in = ap (λ (z : Answer × State). z.1.next_in) (same_Some _ y h) in let same : (settle s m r).1.next_in ≡ s.next_in = (settle_inbox s m r).1 in omega arith)
+was_new A s m (IsReceipt r) y h grew =
+    let at : (settle s m r).1.next_in ≡ y.1.next_in = ap (λ (z : Answer × State). z.1.next_in) (same_Some _ y h) in
+    let same : (settle s m r).1.next_in ≡ s.next_in = (settle_inbox s m r).1 in
+    absurd (omega arith)
 was_new A s m (IsDocument p) y h grew = (p, refl, new_document_is A s m p y grew (left_is A s m p (received_as s p) y h))
 
 -- the entry is found again, however many came behind it
@@ -127,7 +137,8 @@ found_later s t u n m p none is grows =
 repeats_still : (old new : State) (n : ℕ) (p q : Posted) → same_post p q ≡ true → (new.version ≡ old.version → p ≡ q) → n < old.next_in → KnowsOrNot old new
     → repeats (origin_of new.version) n p q ≡ true
 unfolding KnowsOrNot
-repeats_still old new n p q posted same less (inl is) = subst (λ (x : Posted). repeats (origin_of new.version) n p x ≡ true) (same is) (repeats_itself (origin_of new.version) n p)
+repeats_still old new n p q posted same less (inl is) =
+    subst (λ (x : Posted). repeats (origin_of new.version) n p x ≡ true) (same is) (repeats_itself (origin_of new.version) n p)
 repeats_still old new n p q posted same less (inr is) =
     let below : nat_lt n (origin_of new.version) ≡ true = small n (origin_of new.version) (omega (arith, less, is)) in
     rw (posted, below) refl
@@ -137,7 +148,8 @@ repeats_still old new n p q posted same less (inr is) =
 
 -- what a repeat is answered, and what it leaves
 AnswersAlike : Agreements → State → ℕ → Posted → Option (Answer × State) → Type 0
-AnswersAlike A u n p o = (end : State) × (o ≡ Some (answer_to A n p, end)) × (recorded_posts end ≡ recorded_posts u) × (end.next_in ≡ u.next_in) × (end.outbox ≡ u.outbox)
+AnswersAlike A u n p o =
+    (end : State) × (o ≡ Some (answer_to A n p, end)) × (recorded_posts end ≡ recorded_posts u) × (end.next_in ≡ u.next_in) × (end.outbox ≡ u.outbox)
 
 again : (A : Agreements) (u : State) (k n : ℕ) (p q : Posted) (o : Option InEntry) → option_map lasting_part o ≡ Some (n, p)
     → repeats (origin_of u.version) n p q ≡ true → AnswersAlike A u n p (record_given A u k q o)
@@ -145,13 +157,15 @@ unfolding AnswersAlike
 again A u k n p q None found repeat = absurd (cc)
 again A u k n p q (Some e) found repeat = (
   change_received u e.number (requeued_by_repeat k),
-  ap (λ (b : Bool). if b then Some (answer_to A e.number e.posted, change_received u e.number (requeued_by_repeat k)) else Some (http 409 (Words IdUsedBefore), u)) same
-      ∙ ap (λ (z : ℕ × Posted). Some (answer_to A z.0 z.1, change_received u e.number (requeued_by_repeat k))) it,
+  ap (λ (b : Bool). if b then answered (e.number, e.posted) else Some (http 409 (Words IdUsedBefore), u)) same ∙ ap answered it,
   changed_entries e.number (requeued_by_repeat k) (queued_lasting k) u.inbox,
   refl,
   refl,
 )
   where
+    answered : ℕ × Posted → Option (Answer × State)
+    answered z = Some (answer_to A z.0 z.1, change_received u e.number (requeued_by_repeat k))
+
     it : lasting_part e ≡ (n, p)
     it = same_Some _ _ found
 
@@ -180,13 +194,15 @@ pub repeat_law : (A : Agreements) (old recorded later : State) (head : Head) (bo
 unfolding record_post WasNew
 repeat_law A old recorded later head body m n first trace one grew run =
     let was = was_new A old m (post_reading A (known_digests old.version) head body) (first, recorded) one grew in
-    let is : recorded_posts recorded ≡ recorded_posts old ++ (old.next_in, was.0) ∷ [] = ap (λ (z : Answer × State). recorded_posts z.1) was.2.1 ∙ map_append old.inbox (first_entry old.next_in m was.0) in
+    let left : recorded_posts recorded ≡ recorded_posts (with_first old m was.0) = ap (λ (z : Answer × State). recorded_posts z.1) was.2.1 in
+    let is : recorded_posts recorded ≡ recorded_posts old ++ (old.next_in, was.0) ∷ [] = left ∙ map_append old.inbox (first_entry old.next_in m was.0) in
     let found = found_later old recorded later old.next_in m was.0 was.2.0 is (run_grows A recorded trace later run) in
     let now = reading_alike A (known_digests old.version) (known_digests later.version) head body was.0 was.1 in
     let version : recorded.version ≡ old.version = (step_steady A old (Post head body m) (first, recorded) one).0 in
     let same : later.version ≡ recorded.version → was.0 ≡ now.0 = λ v. same_under A old.version later.version head body was.0 now.0 was.1 now.1 (v ∙ version) in
     let repeat = repeats_still recorded later old.next_in was.0 now.0 now.2 same grew (run_origin A recorded trace later run) in
-    let found_now : option_map lasting_part (received_as later now.0) ≡ Some (old.next_in, was.0) = ap (option_map lasting_part) (sym (received_one later was.0 now.0 (post_key was.0 now.0 now.2))) ∙ found in
+    let one = received_one later was.0 now.0 (post_key was.0 now.0 now.2) in
+    let found_now : option_map lasting_part (received_as later now.0) ≡ Some (old.next_in, was.0) = ap (option_map lasting_part) (sym one) ∙ found in
     posted_again A later n old.next_in was.0 now.0 first (post_reading A (known_digests later.version) head body) now.1
     (sym (ap (λ (z : Answer × State). z.0) was.2.1))
     (again A later n old.next_in was.0 now.0 (received_as later now.0) found_now repeat)

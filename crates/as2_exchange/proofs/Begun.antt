@@ -1,20 +1,20 @@
 -- A document that was begun stays so.
-use Rattle.std.proofs.Common.{◌≡◌, ℕ, true, List, [], ◌∷◌, ◌++◌, Option, Some, None, refl, sym, ap, ◌∙◌, subst}
+use Rattle.std.proofs.Common.{◌≡◌, ℕ, true, List, [], Option, Some, None, refl, sym, ap, ◌∙◌, subst}
 use Rattle.std.specs.Prelude.{option_map, is_some, IsSomeAnd}
 use Rattle.std.specs.Option.{option_or}
 use Rattle.std.specs.List.{filter_map}
 use Rattle.std.proofs.lemmas.Option.{same_Some}
 use Rattle.std.proofs.lemmas.Bool.{false≢true}
-use Rattle.as2_exchange.specs.Agreement.{Agreements, Partner, partner_of}
+use Rattle.as2_exchange.specs.Agreement.{Agreements}
 use Rattle.as2_exchange.specs.State.{State, Version, OutEntry, empty, document}
 use Rattle.as2_exchange.specs.Events.{AnsweredEvent}
-use Rattle.as2_exchange.specs.Run.{Trace, Run, AnEvent, AMigration, Answered, Failed, migrated_state, accepted_events}
+use Rattle.as2_exchange.specs.Run.{Trace, Run, accepted_events}
 use Rattle.as2_exchange.specs.History.{FoundAt, Submission, Fact, fact, first_of, last_of, submission, try_in}
-use Rattle.as2_exchange.proofs.Places.{found_place, further, first_of-push, last_of-push}
+use Rattle.as2_exchange.proofs.Places.{found_place, further, last_of-push}
 use Rattle.as2_exchange.proofs.Entry.{entry_by}
-use Rattle.as2_exchange.proofs.Pushes.{answered_event, with_fact, facts-push}
-use Rattle.as2_exchange.proofs.Keeping.{IsAsTold, step_keeps, migrated_keeps}
-use Rattle.as2_exchange.proofs.Runs.{begins, run_keeps}
+use Rattle.as2_exchange.proofs.Pushes.{with_fact}
+use Rattle.as2_exchange.proofs.Keeping.{IsAsTold}
+use Rattle.as2_exchange.proofs.Runs.{run_facts, begins, run_keeps}
 
 -- a try of it is among the facts
 abbrev IsTried : List Fact → Type 0
@@ -29,20 +29,6 @@ still_tried facts (Some f) h = rw (last_of-push try_in facts f) (by (option_map 
     by None (Some x) g = refl
     by None None g = absurd (false≢true g)
 
-begun_run : (A : Agreements) (k : ℕ) (d : Submission) (p : Partner) (past : List AnsweredEvent) (after : List AnsweredEvent) (old : State) (trace : Trace) (new : State)
-    → partner_of A d.partner ≡ Some p → IsAsTold A past old → Run A old trace new → first_of (submission k) past ≡ Some (record { it = d; after = after })
-    → IsTried (filter_map (fact A k d) after) → IsSomeAnd (document new k) (λ e. e.begun ≡ true)
-begun_run A k d p past after old [] new theirs keeps run found has =
-    let is : document new k ≡ Some (entry_by A k d (filter_map (fact A k d) after) p) = rw run (keeps.each k ∙ rw (found, theirs) refl) in
-    subst (λ (o : Option OutEntry). IsSomeAnd o (λ e. e.begun ≡ true)) (sym is) has
-begun_run A k d p past after old (AnEvent e (Answered a) ∷ rest) new theirs keeps run found has =
-    begun_run A k d p (past ++ answered_event old.version e a ∷ []) (after ++ answered_event old.version e a ∷ []) run.0 rest new theirs
-    (step_keeps A past old e (a, run.0) keeps run.1) run.2
-    (first_of-push (submission k) past (answered_event old.version e a) ∙ rw found refl)
-    (rw (facts-push A k d after (answered_event old.version e a)) (still_tried (filter_map (fact A k d) after) (fact A k d (answered_event old.version e a)) has))
-begun_run A k d p past after old (AnEvent e (Failed fault) ∷ rest) new theirs keeps run found has = begun_run A k d p past after old rest new theirs keeps run.1 found has
-begun_run A k d p past after old (AMigration n ∷ rest) new theirs keeps run found has = begun_run A k d p past after (migrated_state old) rest new theirs (migrated_keeps A past old keeps) run.2 found has
-
 pub begun_stays_law : (A : Agreements) (v : Version) (first : ℕ) (one two : Trace) (s t : State) → Run A (empty v first) one s → Run A s two t
     → (k : ℕ) (d : OutEntry) → document s k ≡ Some d → d.begun ≡ true → IsSomeAnd (document t k) (λ e. e.begun ≡ true)
 begun_stays_law A v first one two s t run on k d is begun = by (first_of (submission k) (accepted_events v one)) refl
@@ -56,4 +42,6 @@ begun_stays_law A v first one two s t run on k d is begun = by (first_of (submis
         let known = keeps.ours k f h in
         let facts = filter_map (fact A k f.it) f.after in
         let entry_is : entry_by A k f.it facts known.0 ≡ d = same_Some _ _ (sym (keeps.each k ∙ rw (h, known.1.theirs) refl) ∙ is) in
-        begun_run A k f.it known.0 (accepted_events v one) f.after s two t known.1.theirs keeps on h (ap (λ (e : OutEntry). e.begun) entry_is ∙ begun)
+        let end = run_facts A k f.it known.0 known.1.theirs IsTried still_tried (accepted_events v one) f.after s two t keeps on h
+        (ap (λ (e : OutEntry). e.begun) entry_is ∙ begun) in
+        subst (λ (o : Option OutEntry). IsSomeAnd o (λ e. e.begun ≡ true)) (sym end.2) end.1

@@ -1,4 +1,6 @@
 -- A post repeats an entry exactly where it would make the same.
+-- The plan: each test of equality that is true makes its two sides equal (`.. _is`); from these, that a post repeats an entry exactly where
+-- both are the same document (`repeats_exactly`), or the same in what was known before (`repeats_before`). A new field gets its `.. _is`.
 use Rattle.std.proofs.Common.{◌≡◌, ◌↔◌, ℕ, ◌<◌, ◌≤◌, Bool, true, false, ◌&&◌, ◌||◌, Option, Some, None, refl, sym, ap, ◌∙◌, subst, arith}
 use Rattle.std.specs.Prelude.{IsTrue, nat_lt}
 use Rattle.std.specs.List.{find}
@@ -7,7 +9,8 @@ use Rattle.std.proofs.lemmas.Bool.{false≢true}
 use Rattle.std.proofs.lemmas.Bool.Decides.{nat_tests}
 use Rattle.std.proofs.lemmas.Slice.Eq.{bytes_eq-Decides}
 use Rattle.as2_exchange.specs.Agreement.{Text, Alg, Md5, Sha1, Sha256}
-use Rattle.as2_exchange.specs.Readings.{ReceiptDelivery, NoReceipt, Sync, Async, Mic, Outcome, Processed, DecryptionFailed, DecompressionFailed, AuthenticationFailed, UnsupportedFormat, UnsupportedMicAlgorithms, value_of}
+use Rattle.as2_exchange.specs.Readings.{ReceiptDelivery, NoReceipt, Sync, Async, Mic, Outcome, Processed, DecryptionFailed}
+use Rattle.as2_exchange.specs.Readings.{DecompressionFailed, AuthenticationFailed, UnsupportedFormat, UnsupportedMicAlgorithms, value_of}
 use Rattle.as2_exchange.specs.State.{State, InEntry, Posted, has_key, same_key, received_as}
 use Rattle.as2_exchange.specs.Posts.{ArePostedAlike, same_post, same_result, repeats, outcome_eq, how_eq, alg_eq, mic_eq}
 use Rattle.as2_exchange.proofs.Repeats.{same_text, how_same, repeats_itself}
@@ -128,7 +131,10 @@ repeat_is origin n p q late h =
 
 -- from the origin on, a post repeats what it equals
 pub repeats_exactly : (origin n : ℕ) (p q : Posted) → origin ≤ n → IsTrue (repeats origin n p q) ↔ (p ≡ q)
-repeats_exactly origin n p q late = (repeat_is origin n p q (grind (arith, nat_tests)), λ same. subst (λ (x : Posted). repeats origin n p x ≡ true) same (repeats_itself origin n p))
+repeats_exactly origin n p q late = (
+  repeat_is origin n p q (grind (arith, nat_tests)),
+  λ same. subst (λ (x : Posted). repeats origin n p x ≡ true) same (repeats_itself origin n p),
+)
 
 -- below it, what was posted alike
 pub repeats_before : (origin n : ℕ) (p q : Posted) → n < origin → IsTrue (repeats origin n p q) ↔ ArePostedAlike p q
@@ -166,7 +172,9 @@ pub post_key : (p q : Posted) → same_post p q ≡ true → HaveOneKey p q
 post_key p q h = let it = post_is p q h in record { sender = it.sender; receiver = it.receiver; value = ap value_of it.id }
 
 pub one_key : (p q : Posted) → HaveOneKey p q → same_key p q ≡ true
-one_key p q k = and_all _ _ _ ((bytes_eq-Decides p.sender q.sender).1 k.sender) ((bytes_eq-Decides p.receiver q.receiver).1 k.receiver) ((bytes_eq-Decides (value_of p.id) (value_of q.id)).1 k.value)
+one_key p q k =
+    and_all _ _ _ ((bytes_eq-Decides p.sender q.sender).1 k.sender) ((bytes_eq-Decides p.receiver q.receiver).1 k.receiver)
+    ((bytes_eq-Decides (value_of p.id) (value_of q.id)).1 k.value)
 
 pub keys_joined : (p q r : Posted) → HaveOneKey p r → HaveOneKey q r → same_key p q ≡ true
 keys_joined p q r h g = one_key p q (record { sender = h.sender ∙ sym g.sender; receiver = h.receiver ∙ sym g.receiver; value = h.value ∙ sym g.value })

@@ -1,6 +1,8 @@
 -- The agreements and the texts of the worked rows, and what they are read as, computed from their bytes.
+-- The plan: three partners of one organization, the content `abc` with its MICs, a receipt as Buyer's station writes it, and a posted document,
+-- each with what it is read as. The rows of the other files are computed from these. A text that another row needs belongs here.
 use Rattle.std.proofs.Common.{◌≡◌, [], ◌∷◌, ◌++◌, Some, refl, ap}
-use Rattle.std.specs.Prelude.{codes, length}
+use Rattle.std.specs.Prelude.{codes, length, ⊤}
 use Rattle.sha1.proofs.StandardFacts.{digest_of_abc as sha1_of_abc}
 use Rattle.md5.proofs.StandardFacts.{digest_of_abc as md5_of_abc}
 use Rattle.md5.specs.Md5.{block_words, rounds, compress, hash_after, digest_bytes, md5}
@@ -13,14 +15,37 @@ use Rattle.as2_mic.specs.Mic.{mic, base64_text}
 use Rattle.as2_mdn.specs.Receipts.{Mic as MicRead, Given}
 use Rattle.as2_exchange.specs.Agreement.{Text, Agreements, Partner, Asked, NoReceipt, Sync, Async, Sha1, Md5}
 use Rattle.as2_exchange.specs.Detail.{Processed}
-use Rattle.as2_exchange.specs.Readings.{Head, Receipt, ReceiptDelivery, Sync as SyncReceipt, Async as AsyncReceipt, Processed as WasProcessed, names_of, version_fits, type_of, is_report, report_in, verdict, id_of, ask_of, how_of, document_outcome, encoding_refused, mic_for}
+use Rattle.as2_exchange.specs.Readings.{Head, Receipt, ReceiptDelivery, Sync as SyncReceipt, Async as AsyncReceipt}
+use Rattle.as2_exchange.specs.Readings.{Processed as WasProcessed, names_of, version_fits, type_of, is_report, report_in}
+use Rattle.as2_exchange.specs.Readings.{verdict, id_of, ask_of, how_of, document_outcome, encoding_refused, mic_for}
 use Rattle.as2_exchange.specs.State.{Posted, AllDigests}
 use Rattle.as2_exchange.specs.Posts.{IsDocument, IsReceipt, ReceivedReceipt, post_reading}
+
+-- ---- what a row unfolds
+
+-- to read a post
+unfoldable pub posts_read : ⊤
+unfolding post_reading names_of version_fits type_of is_report id_of ask_of how_of document_outcome encoding_refused mic_for without_blanks between_quotes bare
+posts_read = tt
+
+-- to read a receipt
+unfoldable pub receipts_read : ⊤
+unfolding post_reading names_of version_fits type_of is_report report_in without_blanks between_quotes bare
+receipts_read = tt
 
 -- ---- the agreements
 
 abbrev pub partner_at : Text → Text → Asked → Partner
-partner_at name url asked = record { name = name; url = url; receipt = asked; digest = Sha1; content_type = codes "application/edi-x12"; max_tries = 2; retry_seconds = 30; overdue_seconds = 60 }
+partner_at name url asked = record {
+  name = name;
+  url = url;
+  receipt = asked;
+  digest = Sha1;
+  content_type = codes "application/edi-x12";
+  max_tries = 2;
+  retry_seconds = 30;
+  overdue_seconds = 60;
+}
 
 abbrev pub buyer : Partner
 buyer = partner_at (codes "Buyer") (codes "http://127.0.0.1:8081/as2") Sync
@@ -87,7 +112,11 @@ abbrev pub q_type_text : Text
 q_type_text = codes "multipart/report; report-type=disposition-notification; boundary=\"as2-mdn-7\""
 
 abbrev pub q_media : Media
-q_media = record { type_name = codes "multipart"; subtype = codes "report"; parameters = (codes "report-type", codes "disposition-notification") ∷ (codes "boundary", codes "as2-mdn-7") ∷ [] }
+q_media = record {
+  type_name = codes "multipart";
+  subtype = codes "report";
+  parameters = (codes "report-type", codes "disposition-notification") ∷ (codes "boundary", codes "as2-mdn-7") ∷ [];
+}
 
 -- what a receipt for the document of that number tells
 abbrev pub tells : Text → Text × Text → MicRead → Receipt
@@ -98,7 +127,14 @@ md5_given = Given (codes "kAFQmDzST7DWlj99KOF/cg==", codes "md5")
 
 -- the receipt as it came from that partner
 abbrev pub came_from : Text → Text → Text → ReceivedReceipt
-came_from from id body = record { known = AllDigests; from = from; to = codes "Supplier"; receipt = tells id (codes "processed", []) md5_given; content_type = q_type_text; body = body }
+came_from from id body = record {
+  known = AllDigests;
+  from = from;
+  to = codes "Supplier";
+  receipt = tells id (codes "processed", []) md5_given;
+  content_type = q_type_text;
+  body = body;
+}
 
 abbrev pub first_id : Text
 first_id = codes "<out-1@station.example>"
@@ -132,7 +168,8 @@ q_from_depot = refl
 unfoldable pub q_for_2 : Text
 q_for_2 = receipt_body (codes "<out-2@station.example>") (codes "processed") md5_line
 
-pub q_for_2_posted : post_reading fixture AllDigests (receipt_head (codes "Buyer")) q_for_2 ≡ IsReceipt (came_from (codes "Buyer") (codes "<out-2@station.example>") q_for_2)
+pub q_for_2_posted : post_reading fixture AllDigests (receipt_head (codes "Buyer")) q_for_2
+    ≡ IsReceipt (came_from (codes "Buyer") (codes "<out-2@station.example>") q_for_2)
 unfolding receipt_head receipt_body q_for_2 post_reading names_of version_fits type_of is_report report_in without_blanks between_quotes bare
 q_for_2_posted = refl
 
@@ -166,7 +203,16 @@ post_head from id more =
 
 -- what is made of one
 abbrev pub document_of : Text → Text → Text → ReceiptDelivery → Text → Posted
-document_of from id content how text = record { sender = from; receiver = codes "Supplier"; id = id; content_type = codes "application/edi-x12"; content = content; outcome = WasProcessed; how = how; mic = Some (record { digest = Sha1; text = text }) }
+document_of from id content how text = record {
+  sender = from;
+  receiver = codes "Supplier";
+  id = id;
+  content_type = codes "application/edi-x12";
+  content = content;
+  outcome = WasProcessed;
+  how = how;
+  mic = Some (record { digest = Sha1; text = text });
+}
 
 abbrev pub sha1_text : Text
 sha1_text = codes "qZk+NkcGgWq6PiVxeFDCbJzQ2J0="
@@ -174,27 +220,32 @@ sha1_text = codes "qZk+NkcGgWq6PiVxeFDCbJzQ2J0="
 abbrev pub m1 : Text
 m1 = codes "<m1@x>"
 
-pub p1_posted : post_reading fixture AllDigests (post_head (codes "Buyer") m1 []) abc ≡ IsDocument (document_of (codes "Buyer") m1 abc SyncReceipt sha1_text)
-unfolding post_head post_reading names_of version_fits type_of is_report id_of ask_of how_of document_outcome encoding_refused mic_for without_blanks between_quotes bare
+pub p1_posted : post_reading fixture AllDigests (post_head (codes "Buyer") m1 []) abc
+    ≡ IsDocument (document_of (codes "Buyer") m1 abc SyncReceipt sha1_text)
+unfolding post_head posts_read
 p1_posted = ap (λ (text : Text). IsDocument (document_of (codes "Buyer") m1 abc SyncReceipt text)) sha1_mic
 
 -- with another content
-pub p1_changed : post_reading fixture AllDigests (post_head (codes "Buyer") m1 []) (codes "abd") ≡ IsDocument (document_of (codes "Buyer") m1 (codes "abd") SyncReceipt (mic Sha1 (codes "abd")))
-unfolding post_head post_reading names_of version_fits type_of is_report id_of ask_of how_of document_outcome encoding_refused mic_for without_blanks between_quotes bare
+pub p1_changed : post_reading fixture AllDigests (post_head (codes "Buyer") m1 []) (codes "abd")
+    ≡ IsDocument (document_of (codes "Buyer") m1 (codes "abd") SyncReceipt (mic Sha1 (codes "abd")))
+unfolding post_head posts_read
 p1_changed = refl
 
 -- under another identifier
-pub p2_posted : post_reading fixture AllDigests (post_head (codes "Buyer") (codes "<m2@x>") []) abc ≡ IsDocument (document_of (codes "Buyer") (codes "<m2@x>") abc SyncReceipt sha1_text)
-unfolding post_head post_reading names_of version_fits type_of is_report id_of ask_of how_of document_outcome encoding_refused mic_for without_blanks between_quotes bare
+pub p2_posted : post_reading fixture AllDigests (post_head (codes "Buyer") (codes "<m2@x>") []) abc
+    ≡ IsDocument (document_of (codes "Buyer") (codes "<m2@x>") abc SyncReceipt sha1_text)
+unfolding post_head posts_read
 p2_posted = ap (λ (text : Text). IsDocument (document_of (codes "Buyer") (codes "<m2@x>") abc SyncReceipt text)) sha1_mic
 
 -- the receipt is to come later, to an address
 abbrev pub return_head : Head
 return_head = (codes "receipt-delivery-option", codes "http://127.0.0.1:8082/mdn") ∷ []
 
-pub p1_from_depot : post_reading fixture AllDigests (post_head (codes "Depot") m1 return_head) abc ≡ IsDocument (document_of (codes "Depot") m1 abc (AsyncReceipt (codes "http://127.0.0.1:8082/mdn")) sha1_text)
-unfolding post_head post_reading names_of version_fits type_of is_report id_of ask_of how_of document_outcome encoding_refused mic_for without_blanks between_quotes bare
-p1_from_depot = ap (λ (text : Text). IsDocument (document_of (codes "Depot") m1 abc (AsyncReceipt (codes "http://127.0.0.1:8082/mdn")) text)) sha1_mic
+pub p1_from_depot : post_reading fixture AllDigests (post_head (codes "Depot") m1 return_head) abc
+    ≡ IsDocument (document_of (codes "Depot") m1 abc (AsyncReceipt (codes "http://127.0.0.1:8082/mdn")) sha1_text)
+unfolding post_head posts_read
+p1_from_depot =
+    ap (λ (text : Text). IsDocument (document_of (codes "Depot") m1 abc (AsyncReceipt (codes "http://127.0.0.1:8082/mdn")) text)) sha1_mic
 
 -- the MIC of no content
 empty_content_md5 : mic Md5 [] ≡ codes "1B2M2Y8AsgTpgAmY7PhCfg=="

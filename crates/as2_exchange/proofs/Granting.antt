@@ -8,7 +8,8 @@ use Rattle.as2_exchange.specs.Agreement.{Text, Agreements, Partner, is_organizat
 use Rattle.as2_exchange.specs.Detail.{ReceiptStage, Unasked, Pending, Sent}
 use Rattle.as2_exchange.specs.Readings.{Job, document_job, receipt_job}
 use Rattle.as2_exchange.specs.State.{State, InEntry, OutEntry, document, received_entry, is_settled}
-use Rattle.as2_exchange.specs.Events.{Answer, Job as AJob, Refused, NoSuchNumber, UnknownOrganization, UnknownPartner, AllSettled, TriesUsedUp, NotDue, Begin, BeginReceipt}
+use Rattle.as2_exchange.specs.Events.{Answer, Job as AJob, Refused, NoSuchNumber, UnknownOrganization}
+use Rattle.as2_exchange.specs.Events.{UnknownPartner, AllSettled, TriesUsedUp, NotDue, Begin, BeginReceipt}
 use Rattle.as2_exchange.specs.Documents.{begun_document, waits}
 use Rattle.as2_exchange.specs.OwedReceipts.{is_pending, begun_receipt}
 use Rattle.as2_exchange.specs.Recording.{receipt_out}
@@ -20,7 +21,11 @@ less n k h = grind (arith, nat_tests)
 
 -- where the tests are taken one after the other, a request is handed out only where all of them fail
 abbrev granted : {E : Type 0} → E → E → Job → Bool → Bool → Bool → Answer × E
-granted e x given settled used early = if settled then (Refused AllSettled, e) else if used then (Refused TriesUsedUp, e) else if early then (Refused NotDue, e) else (AJob given, x)
+granted e x given settled used early =
+    if settled then (Refused AllSettled, e)
+    else if used then (Refused TriesUsedUp, e)
+    else if early then (Refused NotDue, e)
+    else (AJob given, x)
 
 granted_by : {E : Type 0} (e x : E) (job given : Job) (settled used early : Bool) → (granted e x given settled used early).0 ≡ AJob job → (settled ≡ false)
     × (used ≡ false)
@@ -51,7 +56,11 @@ begun_granted : (A : Agreements) (m : ℕ) (d : OutEntry) (job : Job) → (begun
 unfolding begun_document
 begun_granted A m d job h =
     granted_to A d.organization d.partner d _ job (Unsettled d)
-    (λ p g. let is = granted_by d _ job (document_job A p d.organization d.id d.content) (is_settled d) (nat_le p.max_tries d.tries) (waits d.detail || is_early m d.due) g in (is.0, less p.max_tries d.tries is.1)) h
+    (λ p g.
+    let given = document_job A p d.organization d.id d.content in
+    let is = granted_by d _ job given (is_settled d) (nat_le p.max_tries d.tries) (waits d.detail || is_early m d.due) g in
+    (is.0, less p.max_tries d.tries is.1))
+    h
 
 -- both facts, taken apart
 parted : (d : OutEntry) (o : Option Partner) → IsSomeAnd o (Unsettled d) → (is_settled d ≡ false) × IsSomeAnd o (λ p. d.tries < p.max_tries)
@@ -84,7 +93,11 @@ receipt_begun_granted : (A : Agreements) (m : ℕ) (e : InEntry) (job : Job) →
 unfolding begun_receipt
 receipt_begun_granted A m e job h =
     granted_to A e.posted.receiver e.posted.sender e _ job (StillOwed e)
-    (λ p g. let is = granted_by e _ job (receipt_job e.posted.how (receipt_out A e.number e.posted)) (not (is_pending e.receipt_stage)) (nat_le p.max_tries e.tries) (is_early m e.due) g in (owes_receipt e.receipt_stage is.0, less p.max_tries e.tries is.1)) h
+    (λ p g.
+    let given = receipt_job e.posted.how (receipt_out A e.number e.posted) in
+    let is = granted_by e _ job given (not (is_pending e.receipt_stage)) (nat_le p.max_tries e.tries) (is_early m e.due) g in
+    (owes_receipt e.receipt_stage is.0, less p.max_tries e.tries is.1))
+    h
 
 parted_receipt : (e : InEntry) (o : Option Partner) → IsSomeAnd o (StillOwed e) → (e.receipt_stage ≡ Pending) × IsSomeAnd o (λ p. e.tries < p.max_tries)
 parted_receipt e None h = absurd h

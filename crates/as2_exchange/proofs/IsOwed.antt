@@ -1,4 +1,8 @@
 -- What a repeat, a try and its outcome make of a receipt that is sent later is what one more fact tells.
+-- The plan: `IsOwed` says stage, tries, attempt and due moment by the facts since the receipt was queued. A part for each event shows
+-- that the entry it leaves is so by one fact more: `reposted_owed`, `begun_owed`, `closed_owed`. There the tests of the machine are
+-- arguments of type Bool, and each case computes. The last part is of receipts that aren't sent later.
+-- A new field of a receipt's progress is a line more in `IsOwed`; a new event is a part more.
 use Rattle.std.proofs.Common.{◌≡◌, ℕ, ◌+◌, Bool, true, false, not, ◌&&◌, ◌||◌, List, [], ◌∷◌, ◌++◌, Option, Some, None, refl, sym, ap, ◌∙◌, subst}
 use Rattle.std.specs.Prelude.{option_map, is_some, nat_le, if◌then◌else◌}
 use Rattle.std.specs.List.{list_any}
@@ -56,12 +60,16 @@ queued_owed p m e h g f k = record { state = h; count = g; try = f; wait = k }
 
 pub reposted_owed : (p : Partner) (since : FoundAt ℕ Fact) (m : ℕ) (e : InEntry) → is_async e.posted.how ≡ true → IsOwed p since e
     → IsOwed p (if is_delivered since.after || are_used p since.after then found_place [] m else since) (requeued_by_repeat m e)
-reposted_owed p since m e async h = subst (λ (b : Bool). IsOwed p (if is_delivered since.after || are_used p since.after then found_place [] m else since) (if b then queued else e)) (sym same) (by (is_delivered since.after || are_used p since.after))
+reposted_owed p since m e async h =
+    subst (λ (b : Bool). IsOwed p (if done then found_place [] m else since) (if b then queued else e)) (sym same) (by done)
   where
+    done : Bool
+    done = is_delivered since.after || are_used p since.after
+
     queued : InEntry
     queued = record e { receipt_stage = Pending; tries = 0; attempt = Idle; due = Some m }
 
-    same : (is_async e.posted.how && is_done_with e.receipt_stage e.attempt) ≡ (is_delivered since.after || are_used p since.after)
+    same : (is_async e.posted.how && is_done_with e.receipt_stage e.attempt) ≡ done
     same =
         ap (λ (b : Bool). b && is_done_with e.receipt_stage e.attempt) async
         ∙ ap (λ (x : ReceiptStage). is_done_with x e.attempt) h.state
@@ -100,11 +108,13 @@ tried_owed p since m e h pending =
     let is = tried_is p m e (nat_le p.max_tries (e.tries + 1)) in
     let none : is_delivered since.after ≡ false = pending_not (is_delivered since.after) e.receipt_stage h.state pending in
     let delivered : is_delivered (since.after ++ ATry m ∷ []) ≡ false = delivered-push since.after (ATry m) ∙ or_false (is_delivered since.after) ∙ none in
+    let counted = tries-push since.after (ATry m) in
+    let last = last_tried-push since.after (ATry m) in
     record {
       state = is.0 ∙ h.state ∙ ap receipt_after (none ∙ sym delivered);
-      count = is.1 ∙ ap (λ n. n + 1) h.count ∙ sym (tries-push since.after (ATry m));
-      try = is.2 ∙ ap (λ n. if nat_le p.max_tries (n + 1) then Last else Running) h.count ∙ rw (delivered, tries-push since.after (ATry m), last_tried-push since.after (ATry m)) refl;
-      wait = is.3 ∙ ap (λ n. if nat_le p.max_tries (n + 1) then None else Some (m + p.retry_seconds)) h.count ∙ rw (delivered, tries-push since.after (ATry m), last_tried-push since.after (ATry m)) refl;
+      count = is.1 ∙ ap (λ n. n + 1) h.count ∙ sym counted;
+      try = is.2 ∙ ap (λ n. if nat_le p.max_tries (n + 1) then Last else Running) h.count ∙ rw (delivered, counted, last) refl;
+      wait = is.3 ∙ ap (λ n. if nat_le p.max_tries (n + 1) then None else Some (m + p.retry_seconds)) h.count ∙ rw (delivered, counted, last) refl;
     }
 
 abbrev begun_if : Partner → ℕ → InEntry → TheJob → Bool → Bool → Bool → Answer × InEntry
@@ -128,7 +138,10 @@ begun_by p since m e job true false false is h = tried_owed p since m e h is
 pub begun_owed : (A : Agreements) (p : Partner) (since : FoundAt ℕ Fact) (m : ℕ) (e : InEntry) → AreAgreed A e.posted.receiver e.posted.sender p
     → IsOwed p since e → IsOwed p (with_try since m (begun_receipt A m e).0) (begun_receipt A m e).1
 unfolding begun_receipt
-begun_owed A p since m e agreed h = rw (agreed_is A e.posted.receiver e.posted.sender p e _ agreed) (begun_by p since m e (receipt_job e.posted.how (receipt_out A e.number e.posted)) (is_pending e.receipt_stage) (nat_le p.max_tries e.tries) (is_early m e.due) refl h)
+begun_owed A p since m e agreed h =
+    let job = receipt_job e.posted.how (receipt_out A e.number e.posted) in
+    rw (agreed_is A e.posted.receiver e.posted.sender p e _ agreed)
+    (begun_by p since m e job (is_pending e.receipt_stage) (nat_le p.max_tries e.tries) (is_early m e.due) refl h)
 
 -- ---- a try ends
 
@@ -140,34 +153,52 @@ ended p m e receipt_stage attempt delivery =
     else if is_last attempt then (TryFailed, record e { attempt = Used; due = None })
     else (TryFailed, record e { attempt = Idle; due = Some (m + p.retry_seconds) })
 
-ended_is : (p : Partner) (m queued : ℕ) (e : InEntry) (g d l : Bool) (t : Option TryWithOutcome) (x : Fact) (got : TryAnswer) → e.receipt_stage ≡ receipt_after d → e.attempt ≡ receipt_attempt d l t → e.due ≡ receipt_due p d l queued t → let y = (ended p m e (receipt_after d) (receipt_attempt d l t) g).1 in let d' = d || (has_open t && g) in let t' = option_map (later x (Some (m, got))) t in (y.receipt_stage ≡ receipt_after d') × (y.tries ≡ e.tries) × (y.attempt ≡ receipt_attempt d' l t') × (y.due ≡ receipt_due p d' l queued t')
-ended_is p m queued e g true l t x got h k w = (h, refl, k, w)
-ended_is p m queued e g false l None x got h k w = (h, refl, k, w)
-ended_is p m queued e g false true (Some (t, Some f)) x got h k w = (h, refl, k, w)
-ended_is p m queued e g false false (Some (t, Some f)) x got h k w = (h, refl, k, w)
-ended_is p m queued e true false true (Some (t, None)) x got h k w = (refl, refl, refl, refl)
-ended_is p m queued e true false false (Some (t, None)) x got h k w = (refl, refl, refl, refl)
-ended_is p m queued e false false true (Some (t, None)) x got h k w = (h, refl, refl, refl)
-ended_is p m queued e false false false (Some (t, None)) x got h k w = (h, refl, refl, refl)
+-- the entry has this stage, number of tries, attempt and due moment, by delivery, tries that are used up, and the last try
+abbrev IsTold : Partner → ℕ → ℕ → InEntry → Bool → Bool → Option TryWithOutcome → Type 0
+IsTold p queued n e d l t =
+    (e.receipt_stage ≡ receipt_after d) × (e.tries ≡ n) × (e.attempt ≡ receipt_attempt d l t) × (e.due ≡ receipt_due p d l queued t)
+
+ended_told : (p : Partner) (m queued n : ℕ) (e : InEntry) (g d l : Bool) (t : Option TryWithOutcome) (x : Fact) (got : TryAnswer)
+    → IsTold p queued n e d l t
+    → IsTold p queued n (ended p m e (receipt_after d) (receipt_attempt d l t) g).1 (d || (has_open t && g)) l (option_map (later x (Some (m, got))) t)
+ended_told p m queued n e g true l t x got h = h
+ended_told p m queued n e g false l None x got h = h
+ended_told p m queued n e g false true (Some (t, Some f)) x got h = h
+ended_told p m queued n e g false false (Some (t, Some f)) x got h = h
+ended_told p m queued n e true false true (Some (t, None)) x got h = (refl, h.1, refl, refl)
+ended_told p m queued n e true false false (Some (t, None)) x got h = (refl, h.1, refl, refl)
+ended_told p m queued n e false false true (Some (t, None)) x got h = (h.0, h.1, refl, refl)
+ended_told p m queued n e false false false (Some (t, None)) x got h = (h.0, h.1, refl, refl)
 
 ended_owed : (p : Partner) (since : FoundAt ℕ Fact) (known : Digests) (got : TryAnswer) (m : ℕ) (e : InEntry) → IsOwed p since e
     → IsOwed p (more since (AnOutcome m known got)) (ended p m e e.receipt_stage e.attempt (is_delivery got)).1
 ended_owed p since known got m e h =
-    let is = ended_is p m since.it e (is_delivery got) (is_delivered since.after) (nat_le p.max_tries (tries since.after)) (last_tried since.after) (AnOutcome m known got) got h.state h.try h.wait in
-    record {
-      state = ap (λ (y : Answer × InEntry). y.1.receipt_stage) same ∙ is.0 ∙ ap receipt_after (sym delivered);
-      count = ap (λ (y : Answer × InEntry). y.1.tries) same ∙ is.1 ∙ h.count ∙ sym counted;
-      try = ap (λ (y : Answer × InEntry). y.1.attempt) same ∙ is.2 ∙ rw (delivered, counted, last_tried-push since.after (AnOutcome m known got)) refl;
-      wait = ap (λ (y : Answer × InEntry). y.1.due) same ∙ is.3 ∙ rw (delivered, counted, last_tried-push since.after (AnOutcome m known got)) refl;
-    }
+    let n = tries since.after in
+    let d = is_delivered since.after in
+    let l = nat_le p.max_tries n in
+    let t = last_tried since.after in
+    let told : IsTold p since.it n e d l t = (h.state, h.count, h.try, h.wait) in
+    let is = ended_told p m since.it n e (is_delivery got) d l t (AnOutcome m known got) got told in
+    let last = last_tried-push since.after (AnOutcome m known got) in
+    subst (λ (y : Answer × InEntry). IsOwed p (more since (AnOutcome m known got)) y.1) (sym same) (record {
+      state = is.0 ∙ ap receipt_after (sym delivered);
+      count = is.1 ∙ sym counted;
+      try = is.2 ∙ rw (delivered, counted, last) refl;
+      wait = is.3 ∙ rw (delivered, counted, last) refl;
+    })
   where
-    same : ended p m e e.receipt_stage e.attempt (is_delivery got) ≡ ended p m e (receipt_after (is_delivered since.after)) (receipt_attempt (is_delivered since.after) (nat_le p.max_tries (tries since.after)) (last_tried since.after)) (is_delivery got)
+    attempt : Attempt
+    attempt = receipt_attempt (is_delivered since.after) (nat_le p.max_tries (tries since.after)) (last_tried since.after)
+
+    same : ended p m e e.receipt_stage e.attempt (is_delivery got) ≡ ended p m e (receipt_after (is_delivered since.after)) attempt (is_delivery got)
     same =
         ap (λ (a : ReceiptStage). ended p m e a e.attempt (is_delivery got)) h.state
         ∙ ap (λ (a : Attempt). ended p m e (receipt_after (is_delivered since.after)) a (is_delivery got)) h.try
 
     delivered : is_delivered (since.after ++ AnOutcome m known got ∷ []) ≡ (is_delivered since.after || (has_open (last_tried since.after) && is_delivery got))
-    delivered = delivered-push since.after (AnOutcome m known got) ∙ ap (λ (b : Bool). is_delivered since.after || (b && is_delivery got)) (is_open-last_tried since.after)
+    delivered =
+        delivered-push since.after (AnOutcome m known got)
+        ∙ ap (λ (b : Bool). is_delivered since.after || (b && is_delivery got)) (is_open-last_tried since.after)
 
     counted : tries (since.after ++ AnOutcome m known got ∷ []) ≡ tries since.after
     counted = tries-push since.after (AnOutcome m known got) ∙ add-zero (tries since.after)

@@ -25,7 +25,8 @@ through : (n k : ℕ) → n ≤ k → (x : ℕ) → k ≤ x → n ≤ x
 through n k h x g = omega arith
 
 of_two : (n k : ℕ) (ns : List ℕ) (b : Bool) → nat_le n k ≡ b → IsLeast ns (Some k) → IsLeast (n ∷ ns) (Some (if b then n else k))
-of_two n k ns true is h = (first_counts n (list_any (λ x. x == n) ns), (omega arith, all_weaken (λ x. k ≤ x) (λ x. n ≤ x) (through n k (at_most n k is)) ns h.1))
+of_two n k ns true is h =
+    (first_counts n (list_any (λ x. x == n) ns), (omega arith, all_weaken (λ x. k ≤ x) (λ x. n ≤ x) (through n k (at_most n k is)) ns h.1))
 of_two n k ns false is h = (behind_counts (n == k) (list_any (λ x. x == k) ns) h.0, (more_than n k is, h.1))
 
 one_more : (n : ℕ) (ns : List ℕ) (o : Option ℕ) → IsLeast ns o → IsLeast (n ∷ ns) (Some (smaller n o))

@@ -1,5 +1,5 @@
 -- A migration is of the run.
-use Rattle.std.proofs.Common.{◌≡◌, ◌∙◌, ℕ, List, [], ◌∷◌, ◌++◌, refl, sym, ap}
+use Rattle.std.proofs.Common.{◌≡◌, ◌∙◌, [], ◌∷◌, ◌++◌, sym, ap}
 use Rattle.as2_exchange.specs.Agreement.{Agreements}
 use Rattle.as2_exchange.specs.Run.{Answered, Failed, AnEvent, AMigration, Trace, Run, migrated_state}
 use Rattle.as2_exchange.specs.State.{State, FirstVersion}

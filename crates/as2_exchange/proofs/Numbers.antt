@@ -36,7 +36,8 @@ none_submitted : (A : Agreements) (s : State) (organization partner content : Te
     → end_of_numbers ≤ s.next_out
 unfolding submit
 none_submitted A s organization partner content m h =
-    by (not (is_organization A organization)) (not (is_some (partner_of A partner))) (nat_lt content_limit (length content)) (nat_le end_of_numbers s.next_out) _ _ _ _ refl h
+    by (not (is_organization A organization)) (not (is_some (partner_of A partner))) (nat_lt content_limit (length content)) (nat_le end_of_numbers s.next_out)
+    _ _ _ _ refl h
   where
     by : (b1 b2 b3 b4 : Bool) (y1 y2 y3 y4 : Answer × State) → nat_le end_of_numbers s.next_out ≡ b4
         → (if b1 then Some y1 else if b2 then Some y2 else if b3 then Some y3 else if b4 then None else Some y4) ≡ None → end_of_numbers ≤ s.next_out

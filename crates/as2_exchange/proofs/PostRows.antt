@@ -1,18 +1,23 @@
 -- Worked rows of what a post is read as.
+-- The plan: heads are made from their fields (`message`), and each row tells one view of what the post is read as: the line that refuses it,
+-- its names and outcome, its digest. A new line of refusal wants a row in `refused_posts` and one in `first_line_that_fits`.
 use Rattle.std.proofs.Common.{◌≡◌, ℕ, [], ◌∷◌, Option, Some, None, refl}
 use Rattle.std.specs.Prelude.{codes, replicate, option_map}
 use Rattle.as2_names.specs.Blanks.{without_blanks}
 use Rattle.as2_names.specs.Identifiers.{without_brackets as bare}
 use Rattle.as2_media.specs.Values.{between_quotes}
 use Rattle.as2_exchange.specs.Agreement.{Text, Alg, Sha1, Md5}
-use Rattle.as2_exchange.specs.Readings.{Head, ReceiptDelivery, NoReceipt, Sync, Outcome, Processed, DecryptionFailed, DecompressionFailed, AuthenticationFailed, UnsupportedFormat, UnsupportedMicAlgorithms, names_of, version_fits, type_of, is_report, report_in, id_of, value_of, ask_of, how_of, document_outcome, encoding_refused, mic_for}
-use Rattle.as2_exchange.specs.State.{AllDigests, LaterVersion, empty}
-use Rattle.as2_exchange.specs.Events.{Post, Nothing, Words, Line, BadNames, BadVersion, UnknownNames, BadType, UnreadableReceipt, BadId, BadAsk, IdUsedBefore, NotProcessed}
+use Rattle.as2_exchange.specs.Readings.{Head, ReceiptDelivery, NoReceipt, Sync, Outcome, Processed, DecryptionFailed}
+use Rattle.as2_exchange.specs.Readings.{DecompressionFailed, AuthenticationFailed, UnsupportedFormat, UnsupportedMicAlgorithms}
+use Rattle.as2_exchange.specs.Readings.{names_of, version_fits, type_of, is_report, report_in, id_of, value_of, ask_of}
+use Rattle.as2_exchange.specs.State.{AllDigests}
+use Rattle.as2_exchange.specs.Events.{Post, Nothing, Words, Line, BadNames, BadVersion, UnknownNames, BadType}
+use Rattle.as2_exchange.specs.Events.{UnreadableReceipt, BadId, BadAsk, IdUsedBefore, NotProcessed}
 use Rattle.as2_exchange.specs.Lines.{http, status_of}
 use Rattle.as2_exchange.specs.Posts.{PostReading, Refuses, IsDocument, post_reading}
 use Rattle.as2_exchange.specs.Recording.{record_post, answer_to}
-use Rattle.as2_exchange.proofs.Fixture.{fixture, abc, sha1_mic, q_type_text, m1}
-use Rattle.as2_exchange.proofs.Rows.{play}
+use Rattle.as2_exchange.proofs.Fixture.{fixture, abc, sha1_mic, q_type_text, m1, posts_read}
+use Rattle.as2_exchange.proofs.Rows.{play, new_store}
 
 -- a head: version, sender, identifier, content type, and what else stands there
 abbrev message : Text → Text → Text → Text → Head → Head
@@ -85,11 +90,11 @@ seen_as (IsDocument p) = Some (p.sender, p.content_type, p.outcome, p.how)
 seen_as other = None
 
 least_post : seen_as (read short_head) ≡ Some (codes "Buyer", codes "application/octet-stream", Processed, NoReceipt)
-unfolding post_reading names_of version_fits type_of is_report id_of ask_of how_of document_outcome encoding_refused without_blanks between_quotes bare
+unfolding posts_read
 least_post = refl
 
 quoted_name : seen_as (read (message (codes "1.0") (codes "\"A \\\"B\\\" \\\\ C\"") m1 edi usual)) ≡ Some (codes "A \"B\" \\ C", edi, Processed, Sync)
-unfolding post_reading names_of version_fits type_of is_report id_of ask_of how_of document_outcome encoding_refused without_blanks between_quotes bare
+unfolding posts_read
 quoted_name = refl
 
 -- what becomes of a document from Buyer
@@ -102,17 +107,18 @@ became type more = became_in (read (message (codes "1.0") (codes "Buyer") m1 typ
 
 compressed_and_enveloped : (became (codes "application/pkcs7-mime; smime-type=compressed-data") usual ≡ Some DecompressionFailed)
     × (became (codes "application/pkcs7-mime") usual ≡ Some DecryptionFailed)
-unfolding post_reading names_of version_fits type_of is_report id_of ask_of how_of document_outcome encoding_refused without_blanks between_quotes bare
+unfolding posts_read
 compressed_and_enveloped = (refl, refl)
 
-signed_and_unsupported : (became (codes "multipart/signed; protocol=\"application/pkcs7-signature\"; micalg=sha1; boundary=\"b\"") usual ≡ Some AuthenticationFailed)
+signed_and_unsupported : (became (codes "multipart/signed; protocol=\"application/pkcs7-signature\"; micalg=sha1; boundary=\"b\"") usual
+    ≡ Some AuthenticationFailed)
     × (became edi (asks (codes "signed-receipt-protocol=required, pkcs7-signature")) ≡ Some UnsupportedFormat)
     × (became edi ((codes "disposition-notification-options", codes "signed-receipt-protocol=required, pkcs7-signature") ∷ []) ≡ Some Processed)
     × (became edi ((codes "content-transfer-encoding", codes "base64") ∷ usual) ≡ Some UnsupportedFormat)
     × (became edi ((codes "content-transfer-encoding", codes "Binary") ∷ usual) ≡ Some Processed)
     × (became edi ((codes "content-encoding", codes "gzip") ∷ usual) ≡ Some UnsupportedFormat)
     × (became edi ((codes "content-encoding", codes "identity") ∷ usual) ≡ Some Processed)
-unfolding post_reading names_of version_fits type_of is_report id_of ask_of how_of document_outcome encoding_refused without_blanks between_quotes bare
+unfolding posts_read
 signed_and_unsupported = (refl, refl, refl, refl, refl, refl, refl)
 
 -- the digest of the MIC
@@ -127,23 +133,29 @@ mic_algorithms : (became edi (asks (codes "signed-receipt-micalg=required, sha-3
     × (digest_of (codes "signed-receipt-micalg=required, sha-384") ≡ None)
     × (digest_of (codes "signed-receipt-micalg=optional, sha-384") ≡ Some Sha1)
     × (digest_of (codes "signed-receipt-micalg=optional, sha-384, MD5, sha1") ≡ Some Md5)
-unfolding post_reading names_of version_fits type_of is_report id_of ask_of how_of document_outcome encoding_refused mic_for without_blanks between_quotes bare
+unfolding posts_read
 mic_algorithms = (refl, refl, refl, refl)
 
 abbrev bare_head : Text → Head
 bare_head id = message (codes "1.0") (codes "Buyer") id edi []
 
 -- one value in two spellings is no repeat
-identifier_spelling : play (λ s. s.next_in) (empty (LaterVersion 0) 1) (Post (bare_head (codes "m1@x")) abc 1000 ∷ Post (bare_head m1) abc 1000 ∷ []) ≡ Some (http 200 Nothing ∷ http 409 (Words IdUsedBefore) ∷ [], 2)
-unfolding play post_reading names_of version_fits type_of is_report id_of value_of ask_of how_of document_outcome encoding_refused mic_for without_blanks between_quotes bare record_post answer_to
+identifier_spelling : play (λ s. s.next_in) new_store
+    (Post (bare_head (codes "m1@x")) abc 1000 ∷ Post (bare_head m1) abc 1000 ∷ [])
+    ≡ Some (http 200 Nothing ∷ http 409 (Words IdUsedBefore) ∷ [], 2)
+unfolding play posts_read value_of record_post answer_to
 identifier_spelling = refl
 
 -- an absent content type and the same one spelled out repeat each other
-absent_type_is_octets : play (λ s. s.next_in) (empty (LaterVersion 0) 1) (Post short_head abc 1000 ∷ Post (message (codes "1.0") (codes "Buyer") m1 (codes "application/octet-stream") []) abc 1000 ∷ []) ≡ Some (http 200 Nothing ∷ http 200 Nothing ∷ [], 2)
-unfolding play post_reading names_of version_fits type_of is_report id_of value_of ask_of how_of document_outcome encoding_refused mic_for without_blanks between_quotes bare record_post answer_to
+absent_type_is_octets : play (λ s. s.next_in) new_store
+    (Post short_head abc 1000 ∷ Post (message (codes "1.0") (codes "Buyer") m1 (codes "application/octet-stream") []) abc 1000 ∷ [])
+    ≡ Some (http 200 Nothing ∷ http 200 Nothing ∷ [], 2)
+unfolding play posts_read value_of record_post answer_to
 absent_type_is_octets = rw sha1_mic refl
 
 -- a document that isn't processed, and no receipt asked
-unprocessed_without_receipt : play (λ s. s.next_in) (empty (LaterVersion 0) 1) (Post (message (codes "1.0") (codes "Buyer") m1 (codes "application/pkcs7-mime") []) abc 1000 ∷ []) ≡ Some (http 400 (Words (NotProcessed DecryptionFailed)) ∷ [], 2)
-unfolding play post_reading names_of version_fits type_of is_report id_of value_of ask_of how_of document_outcome encoding_refused mic_for without_blanks between_quotes bare record_post answer_to
+unprocessed_without_receipt : play (λ s. s.next_in) new_store
+    (Post (message (codes "1.0") (codes "Buyer") m1 (codes "application/pkcs7-mime") []) abc 1000 ∷ [])
+    ≡ Some (http 400 (Words (NotProcessed DecryptionFailed)) ∷ [], 2)
+unfolding play posts_read value_of record_post answer_to
 unprocessed_without_receipt = refl

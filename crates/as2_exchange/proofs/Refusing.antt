@@ -1,24 +1,32 @@
 -- What is refused leaves the state as it was.
-use Rattle.std.proofs.Common.{◌≡◌, ℕ, ◌+◌, Bool, true, false, not, ◌&&◌, ◌||◌, List, [], ◌∷◌, ◌++◌, map, Option, Some, None, refl, sym, ap, ◌∙◌, subst}
-use Rattle.std.specs.Prelude.{option_and_then, is_some, ◌==◌, cond, if◌then◌else◌, nat_le, nat_lt, length}
+-- The plan: `AnswersOnly` says that a refusal leaves what it was given. Each act of the machine has it, test by test (`test_leaves`), and so
+-- has each step (`step_leaves`, a clause for each event); a change that leaves the entry found leaves the box (`left_as_is`).
+use Rattle.std.proofs.Common.{◌≡◌, ℕ, Bool, true, false, not, ◌&&◌, ◌||◌, List, [], ◌∷◌, map, Option, Some, None, refl, sym, ap, ◌∙◌, subst}
+use Rattle.std.specs.Prelude.{option_and_then, ◌==◌, cond, if◌then◌else◌, nat_le}
 use Rattle.std.specs.Option.{option_map_or}
 use Rattle.std.specs.List.{AllByRecursion, IsDistinct, find}
 use Rattle.std.proofs.lemmas.Bool.{false≢true}
 use Rattle.std.proofs.lemmas.Option.{same_Some}
 use Rattle.as2_mdn.specs.Details.{class_of}
 use Rattle.as2_exchange.specs.Agreement.{Text, Agreements, Partner, Asked, NoReceipt, Sync, Async, is_organization, partner_of}
-use Rattle.as2_exchange.specs.Readings.{ReceiptDelivery, NoReceipt as NoneAsked, Sync as SyncReceipt, Async as AsyncReceipt, Outcome as WhatBecame, is_processed, named_by}
-use Rattle.as2_exchange.specs.State.{Posted, InEntry, OutEntry, State, Digests, known_digests, origin_of, end_of_numbers, document, document_named, received_entry, received_as, change_document, change_received, is_settled}
-use Rattle.as2_exchange.specs.Events.{Event, Post, Submit, Begin, Outcome, Resend, BeginReceipt, OutcomeReceipt, Tick, Answer, Refused, Submitted, UnknownOrganization, UnknownPartner, TooLarge, TryAnswer, Nothing, Words, NotProcessed, IdUsedBefore, NoSuchMessage}
+use Rattle.as2_exchange.specs.Readings.{ReceiptDelivery, NoReceipt as NoneAsked, Sync as SyncReceipt}
+use Rattle.as2_exchange.specs.Readings.{Async as AsyncReceipt, Outcome as WhatBecame, is_processed, named_by}
+use Rattle.as2_exchange.specs.State.{Posted, InEntry, OutEntry, State, Digests, known_digests, origin_of, end_of_numbers, document}
+use Rattle.as2_exchange.specs.State.{document_named, received_entry, received_as, change_document, change_received, is_settled}
+use Rattle.as2_exchange.specs.Events.{Event, Post, Submit, Begin, Outcome, Resend, BeginReceipt, OutcomeReceipt, Tick, Answer, Refused}
+use Rattle.as2_exchange.specs.Events.{UnknownOrganization, UnknownPartner, TryAnswer, Nothing, Words, NotProcessed, IdUsedBefore, NoSuchMessage}
 use Rattle.as2_exchange.specs.Posts.{ReceivedReceipt, PostReading, Refuses, IsReceipt, IsDocument, post_reading, repeats}
 use Rattle.as2_exchange.specs.Receipts.{receipt_in_answer, is_delivery, bears}
-use Rattle.as2_exchange.specs.Documents.{begun_document, waits, resent_document, is_error, closed_document, closed_by, if_for, delivered_document, failed_try, submit, new_document, settle, settle_for, settled_document, tick}
+use Rattle.as2_exchange.specs.Documents.{begun_document, waits, resent_document, is_error, closed_document, closed_by, if_for}
+use Rattle.as2_exchange.specs.Documents.{delivered_document, failed_try, submit, settle, settle_for, settled_document, tick}
 use Rattle.as2_exchange.specs.Lines.{http}
 use Rattle.as2_exchange.specs.OwedReceipts.{begun_receipt, closed_receipt, is_pending, is_shut}
-use Rattle.as2_exchange.specs.Recording.{record_post, record_given, requeued_by_repeat, first_entry, answer_to}
+use Rattle.as2_exchange.specs.Recording.{record_post, record_given, requeued_by_repeat, answer_to}
 use Rattle.as2_exchange.specs.Step.{is_refusal, act_on, act_in, post, step}
 use Rattle.as2_exchange.specs.Tries.{where_agreed, is_early, is_idle, is_last}
 use Rattle.as2_exchange.specs.Invariants.{HasDistinctNumbers}
+use Rattle.as2_exchange.proofs.Repeats.{with_first}
+use Rattle.as2_exchange.proofs.Submits.{document_taken, submit_either}
 use Rattle.as2_exchange.proofs.Decisions.{number_is, apart_turned}
 
 -- ---- lists
@@ -138,27 +146,24 @@ acted_leaves : (A : Agreements) (s : State) (n : ℕ) (act : OutEntry → Answer
     → ((d : OutEntry) → AnswersOnly d (act d)) → HasDistinctNumbers s → AnswersOnly s (act_on s n act o)
 unfolding AnswersOnly
 acted_leaves A s n act None found leaves apart h = refl
-acted_leaves A s n act (Some d) found leaves apart h = ap (λ (ds : List OutEntry). record s { outbox = ds }) (left_as_is (λ (x : OutEntry). x.number) (λ (x : OutEntry). (act x).1) n d s.outbox apart.sent found (leaves d h))
+acted_leaves A s n act (Some d) found leaves apart h =
+    let same = left_as_is (λ (x : OutEntry). x.number) (λ (x : OutEntry). (act x).1) n d s.outbox apart.sent found (leaves d h) in
+    ap (λ (ds : List OutEntry). record s { outbox = ds }) same
 
 acted_in_leaves : (A : Agreements) (s : State) (n : ℕ) (act : InEntry → Answer × InEntry) (o : Option InEntry) → received_entry s n ≡ o
     → ((e : InEntry) → AnswersOnly e (act e)) → HasDistinctNumbers s → AnswersOnly s (act_in s n act o)
 unfolding AnswersOnly
 acted_in_leaves A s n act None found leaves apart h = refl
-acted_in_leaves A s n act (Some e) found leaves apart h = ap (λ (es : List InEntry). record s { inbox = es }) (left_as_is (λ (x : InEntry). x.number) (λ (x : InEntry). (act x).1) n e s.inbox apart.received found (leaves e h))
+acted_in_leaves A s n act (Some e) found leaves apart h =
+    let same = left_as_is (λ (x : InEntry). x.number) (λ (x : InEntry). (act x).1) n e s.inbox apart.received found (leaves e h) in
+    ap (λ (es : List InEntry). record s { inbox = es }) same
 
 submit_leaves : (A : Agreements) (s : State) (organization partner content : Text) (m : ℕ) (y : Answer × State)
     → submit A s organization partner content m ≡ Some y → AnswersOnly s y
-unfolding submit AnswersOnly
-submit_leaves A s organization partner content m y h =
-    by (not (is_organization A organization)) (not (is_some (partner_of A partner))) (nat_lt 1048576 (length content)) (nat_le end_of_numbers s.next_out) h
-  where
-    by : (b1 b2 b3 b4 : Bool)
-        → (if b1 then Some (Refused UnknownOrganization, s) else if b2 then Some (Refused UnknownPartner, s) else if b3 then Some (Refused TooLarge, s) else if b4 then None else Some (Submitted s.next_out, record s { outbox = s.outbox ++ new_document A s.next_out organization partner content m ∷ []; next_out = s.next_out + 1 })) ≡ Some y → is_refusal y.0 ≡ true → y.1 ≡ s
-    by true b2 b3 b4 g r = ap (λ (z : Answer × State). z.1) (sym (same_Some _ y g))
-    by false true b3 b4 g r = ap (λ (z : Answer × State). z.1) (sym (same_Some _ y g))
-    by false false true b4 g r = ap (λ (z : Answer × State). z.1) (sym (same_Some _ y g))
-    by false false false true g r = absurd (cc)
-    by false false false false g r = absurd (false≢true (ap (λ (z : Answer × State). is_refusal z.0) (same_Some _ y g) ∙ r))
+unfolding AnswersOnly
+submit_leaves A s organization partner content m y =
+    submit_either (AnswersOnly s) A s organization partner content m y (λ r refused. refl)
+    (λ ours theirs small. acts s (document_taken A s organization partner content m) refl)
 
 -- a post is answered by a status
 with_line : (b : Bool) (became : WhatBecame) → is_refusal (if b then http 200 Nothing else http 400 (Words (NotProcessed became))) ≡ false
@@ -171,24 +176,30 @@ answered_by A n p SyncReceipt is = rw is refl
 answered_by A n p (AsyncReceipt url) is = rw is refl
 answered_by A n p NoneAsked is = rw is (with_line (is_processed p.outcome) p.outcome)
 
+-- whether a step refused
+left_answer : (r y : Answer × State) → Some r ≡ Some y → is_refusal y.0 ≡ is_refusal r.0
+left_answer r y h = ap (λ (z : Answer × State). is_refusal z.0) (sym (same_Some r y h))
+
 recorded_acts : (A : Agreements) (s : State) (m : ℕ) (p : Posted) (o : Option InEntry) (y : Answer × State) → record_given A s m p o ≡ Some y
     → is_refusal y.0 ≡ false
 recorded_acts A s m p (Some e) y h = by (repeats (origin_of s.version) e.number e.posted p) h
   where
-    by : (b : Bool)
-        → (if b then Some (answer_to A e.number e.posted, change_received s e.number (requeued_by_repeat m)) else Some (http 409 (Words IdUsedBefore), s)) ≡ Some y → is_refusal y.0 ≡ false
-    by true g = ap (λ (z : Answer × State). is_refusal z.0) (sym (same_Some _ y g)) ∙ answered_by A e.number e.posted e.posted.how refl
-    by false g = ap (λ (z : Answer × State). is_refusal z.0) (sym (same_Some _ y g))
+    same : Answer × State
+    same = (answer_to A e.number e.posted, change_received s e.number (requeued_by_repeat m))
+
+    by : (b : Bool) → (if b then Some same else Some (http 409 (Words IdUsedBefore), s)) ≡ Some y → is_refusal y.0 ≡ false
+    by true g = left_answer _ y g ∙ answered_by A e.number e.posted e.posted.how refl
+    by false g = left_answer _ y g
 recorded_acts A s m p None y h = by (nat_le end_of_numbers s.next_in) h
   where
-    by : (b : Bool)
-        → (if b then None else Some (answer_to A s.next_in p, record s { inbox = s.inbox ++ first_entry s.next_in m p ∷ []; next_in = s.next_in + 1 })) ≡ Some y → is_refusal y.0 ≡ false
+    by : (b : Bool) → (if b then None else Some (answer_to A s.next_in p, with_first s m p)) ≡ Some y → is_refusal y.0 ≡ false
     by true g = absurd (cc)
-    by false g = ap (λ (z : Answer × State). is_refusal z.0) (sym (same_Some _ y g)) ∙ answered_by A s.next_in p p.how refl
+    by false g = left_answer _ y g ∙ answered_by A s.next_in p p.how refl
 
 settle_acts : (s : State) (m : ℕ) (r : ReceivedReceipt) (o : Option OutEntry) → is_refusal (settle_for s m r o).0 ≡ false
 settle_acts s m r None = refl
-settle_acts s m r (Some d) = by (not (bears r d.organization d.partner d.id && d.begun)) (if is_settled d then s else change_document s d.number (settled_document m r))
+settle_acts s m r (Some d) =
+    by (not (bears r d.organization d.partner d.id && d.begun)) (if is_settled d then s else change_document s d.number (settled_document m r))
   where
     given : Bool → State → Answer × State
     given b t = if b then (http 404 (Words NoSuchMessage), s) else (http 200 Nothing, t)
@@ -199,8 +210,8 @@ settle_acts s m r (Some d) = by (not (bears r d.organization d.partner d.id && d
 
 post_acts : (A : Agreements) (s : State) (m : ℕ) (r : PostReading) (y : Answer × State) → post A s m r ≡ Some y → is_refusal y.0 ≡ false
 unfolding settle record_post
-post_acts A s m (Refuses line) y h = ap (λ (z : Answer × State). is_refusal z.0) (sym (same_Some _ y h))
-post_acts A s m (IsReceipt r) y h = ap (λ (z : Answer × State). is_refusal z.0) (sym (same_Some _ y h)) ∙ settle_acts s m r (document_named s (named_by r.receipt))
+post_acts A s m (Refuses line) y h = left_answer _ y h
+post_acts A s m (IsReceipt r) y h = left_answer _ y h ∙ settle_acts s m r (document_named s (named_by r.receipt))
 post_acts A s m (IsDocument p) y h = recorded_acts A s m p (received_as s p) y h
 
 tick_acts : (m : ℕ) (s : State) → is_refusal (tick m s).0 ≡ false
@@ -210,12 +221,18 @@ tick_acts m s = refl
 step_leaves : (A : Agreements) (s : State) (e : Event) (y : Answer × State) → HasDistinctNumbers s → step A s e ≡ Some y → AnswersOnly s y
 step_leaves A s (Post head body m) y apart h = acts s y (post_acts A s m (post_reading A (known_digests s.version) head body) y h)
 step_leaves A s (Submit organization partner content m) y apart h = submit_leaves A s organization partner content m y h
-step_leaves A s (Begin n m) y apart h = subst (AnswersOnly s) (same_Some _ y h) (acted_leaves A s n (begun_document A m) (document s n) refl (begun_leaves A m) apart)
-step_leaves A s (Resend n m) y apart h = subst (AnswersOnly s) (same_Some _ y h) (acted_leaves A s n (resent_document A m) (document s n) refl (resent_leaves A m) apart)
-step_leaves A s (Outcome n got m) y apart h = subst (AnswersOnly s) (same_Some _ y h) (acted_leaves A s n (closed_document A (known_digests s.version) got m) (document s n) refl (closed_leaves A (known_digests s.version) got m) apart)
-step_leaves A s (BeginReceipt n m) y apart h = subst (AnswersOnly s) (same_Some _ y h) (acted_in_leaves A s n (begun_receipt A m) (received_entry s n) refl (receipt_begun_leaves A m) apart)
-step_leaves A s (OutcomeReceipt n got m) y apart h = subst (AnswersOnly s) (same_Some _ y h) (acted_in_leaves A s n (closed_receipt A got m) (received_entry s n) refl (receipt_closed_leaves A got m) apart)
-step_leaves A s (Tick m) y apart h = acts s y (ap (λ (z : Answer × State). is_refusal z.0) (sym (same_Some _ y h)) ∙ tick_acts m s)
+step_leaves A s (Begin n m) y apart h =
+    subst (AnswersOnly s) (same_Some _ y h) (acted_leaves A s n (begun_document A m) (document s n) refl (begun_leaves A m) apart)
+step_leaves A s (Resend n m) y apart h =
+    subst (AnswersOnly s) (same_Some _ y h) (acted_leaves A s n (resent_document A m) (document s n) refl (resent_leaves A m) apart)
+step_leaves A s (Outcome n got m) y apart h =
+    let known = known_digests s.version in
+    subst (AnswersOnly s) (same_Some _ y h) (acted_leaves A s n (closed_document A known got m) (document s n) refl (closed_leaves A known got m) apart)
+step_leaves A s (BeginReceipt n m) y apart h =
+    subst (AnswersOnly s) (same_Some _ y h) (acted_in_leaves A s n (begun_receipt A m) (received_entry s n) refl (receipt_begun_leaves A m) apart)
+step_leaves A s (OutcomeReceipt n got m) y apart h =
+    subst (AnswersOnly s) (same_Some _ y h) (acted_in_leaves A s n (closed_receipt A got m) (received_entry s n) refl (receipt_closed_leaves A got m) apart)
+step_leaves A s (Tick m) y apart h = acts s y (left_answer _ y h ∙ tick_acts m s)
 
 pub refused_leaves : (A : Agreements) (s t : State) (e : Event) (a : Answer) → HasDistinctNumbers s → step A s e ≡ Some (a, t) → is_refusal a ≡ true → t ≡ s
 unfolding AnswersOnly

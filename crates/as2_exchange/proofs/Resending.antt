@@ -26,7 +26,10 @@ in_error W h = absurd (cc)
 
 -- the tests of a Resend, one after the other
 abbrev resent_if : ℕ → OutEntry → Bool → Bool → Answer × OutEntry
-resent_if m d settled early = if settled then (Refused AllSettled, d) else if early then (Refused NotDue, d) else (Resent, record d { tries = 0; attempt = Idle; due = Some m; detail = New })
+resent_if m d settled early =
+    if settled then (Refused AllSettled, d)
+    else if early then (Refused NotDue, d)
+    else (Resent, record d { tries = 0; attempt = Idle; due = Some m; detail = New })
 
 resent_by : (m : ℕ) (d : OutEntry) (b c : Bool) → is_settled d ≡ b → not (is_error (class_of d.detail)) ≡ c → (resent_if m d b c).0 ≡ Resent → HasFailed d
 resent_by m d true c hb hc h = absurd (cc)
@@ -38,7 +41,9 @@ unfolding resent_document
 resent_failed A m d = by (is_organization A d.organization) (partner_of A d.partner)
   where
     given : Bool → Option Partner → Answer × OutEntry
-    given b o = if not b then (Refused UnknownOrganization, d) else option_map_or (λ (p : Partner). resent_if m d (is_settled d) (not (is_error (class_of d.detail)))) o (Refused UnknownPartner, d)
+    given b o =
+        if not b then (Refused UnknownOrganization, d)
+        else option_map_or (λ (p : Partner). resent_if m d (is_settled d) (not (is_error (class_of d.detail)))) o (Refused UnknownPartner, d)
 
     by : (b : Bool) (o : Option Partner) → (given b o).0 ≡ Resent → HasFailed d
     by false o h = absurd (cc)

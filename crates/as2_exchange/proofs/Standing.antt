@@ -1,4 +1,6 @@
 -- What each act leaves of an entry is an entry.
+-- The plan: `IsEntry` is kept by each change that the machine makes of a document: a receipt, time, a Begin, an Outcome, a Resend. A new
+-- detail gets a case in `passes_range` and, where a receipt gives it, a line in `judged_range`.
 use Rattle.std.proofs.Common.{◌≡◌, ℕ, Bool, true, false, not, ◌||◌, Option, Some, None, refl, sym, ap, subst, arith}
 use Rattle.std.specs.Prelude.{option_and_then, if◌then◌else◌, nat_le}
 use Rattle.std.proofs.lemmas.Option.{same_Some}
@@ -6,23 +8,35 @@ use Rattle.as2_mdn.specs.Details.{class_of}
 use Rattle.as2_mdn.specs.Dispositions.{says_processed, has_modifier, has_error}
 use Rattle.as2_mdn.specs.Verdicts.{differs, is_missing, is_unknown, mic_compared}
 use Rattle.as2_exchange.specs.Agreement.{Text, Agreements, Partner, Asked, NoReceipt, Sync, Async}
-use Rattle.as2_exchange.specs.Detail.{Detail, New, Sending, Awaiting, Retry, Processed, NoReceiptAsked, Warning, NoMic, UnknownMic, NotProcessed, ErrorModifier, MicDiffers, TriesUsed, Overdue, Attempt, Idle, Running, Last, Used}
+use Rattle.as2_exchange.specs.Detail.{Detail, New, Sending, Awaiting, Retry, Processed, NoReceiptAsked, Warning, NoMic, UnknownMic}
+use Rattle.as2_exchange.specs.Detail.{NotProcessed, ErrorModifier, MicDiffers, TriesUsed, Overdue, Attempt, Idle, Running, Last, Used}
 use Rattle.as2_exchange.specs.Readings.{Receipt, verdict}
 use Rattle.as2_exchange.specs.State.{OutEntry, Digests, is_settled}
 use Rattle.as2_exchange.specs.Events.{Answer, TryAnswer, Refused, AllSettled, TriesUsedUp, NotDue, NoOpenTry, AlreadySettled, Resent}
 use Rattle.as2_exchange.specs.Posts.{ReceivedReceipt}
 use Rattle.as2_exchange.specs.Receipts.{receipt_in_answer, is_delivery}
-use Rattle.as2_exchange.specs.Documents.{settled_document, passes_at, passed_document, passes_into, begun_document, waits, resent_document, is_error, closed_document, closed_by, if_for, delivered_document, failed_try}
+use Rattle.as2_exchange.specs.Documents.{settled_document, passes_at, passed_document, passes_into, begun_document, waits, resent_document}
+use Rattle.as2_exchange.specs.Documents.{is_error, closed_document, closed_by, if_for, delivered_document, failed_try}
 use Rattle.as2_exchange.specs.Tries.{is_due, is_early, is_idle, is_last}
 use Rattle.as2_exchange.specs.Invariants.{is_by_receipt, IsEntry}
-use Rattle.as2_exchange.proofs.Documents.{settled_names, passed_names, begun_names, closed_names, resent_names, agreed_either, if_either, changed, changed_names}
+use Rattle.as2_exchange.proofs.Documents.{settled_names, passed_names, begun_names, closed_names}
+use Rattle.as2_exchange.proofs.Documents.{resent_names, agreed_either, if_either, changed, changed_names}
 use Rattle.as2_exchange.proofs.WellFormed.{unsettled_entry, KeepsEntries}
 
 -- ---- a receipt
 
 -- a verdict is a detail that a receipt alone gives, whichever line fits
-judged_range : (b1 b2 b3 b4 b5 b6 : Bool)
-    → is_by_receipt (if b1 then NotProcessed else if b2 then ErrorModifier else if b3 then MicDiffers else if b4 then Warning else if b5 then NoMic else if b6 then UnknownMic else Processed) ≡ true
+abbrev judged : Bool → Bool → Bool → Bool → Bool → Bool → Detail
+judged b1 b2 b3 b4 b5 b6 =
+    if b1 then NotProcessed
+    else if b2 then ErrorModifier
+    else if b3 then MicDiffers
+    else if b4 then Warning
+    else if b5 then NoMic
+    else if b6 then UnknownMic
+    else Processed
+
+judged_range : (b1 b2 b3 b4 b5 b6 : Bool) → is_by_receipt (judged b1 b2 b3 b4 b5 b6) ≡ true
 judged_range true b2 b3 b4 b5 b6 = refl
 judged_range false true b3 b4 b5 b6 = refl
 judged_range false false true b4 b5 b6 = refl
@@ -33,7 +47,9 @@ judged_range false false false false false false = refl
 
 pub verdict_range : (known : Digests) (r : Receipt) (content : Text) → is_by_receipt (verdict known r content) ≡ true
 unfolding verdict
-verdict_range known r content = judged_range (not (says_processed r.disposition)) (has_error r.disposition) (differs (mic_compared known r.mic content)) (has_modifier r.disposition) (is_missing (mic_compared known r.mic content)) (is_unknown (mic_compared known r.mic content))
+verdict_range known r content =
+    let mic = mic_compared known r.mic content in
+    judged_range (not (says_processed r.disposition)) (has_error r.disposition) (differs mic) (has_modifier r.disposition) (is_missing mic) (is_unknown mic)
 
 settled_entry : (m : ℕ) (r : ReceivedReceipt) (d : OutEntry) → IsEntry d → IsEntry (settled_document m r d)
 settled_entry m r d h = record { evidence = sym (verdict_range r.known r.receipt d.content); at_rest = λ g. (refl, refl); tried = h.tried }
@@ -106,7 +122,8 @@ begun_by d x a false false false is h g = g is
 begun_entry : (A : Agreements) (m : ℕ) (d : OutEntry) → IsEntry d → IsEntry (begun_document A m d).1
 unfolding begun_document
 begun_entry A m d h = agreed_either IsEntry A d.organization d.partner d _ h
-    (λ p. begun_by d _ _ (is_settled d) (nat_le p.max_tries d.tries) (waits d.detail || is_early m d.due) refl h (λ none. unsettled_entry _ none refl (λ g. refl)))
+    (λ p. begun_by d _ _ (is_settled d) (nat_le p.max_tries d.tries) (waits d.detail || is_early m d.due) refl h
+    (λ none. unsettled_entry _ none refl (λ g. refl)))
 
 pub begun_keeps : (A : Agreements) (m : ℕ) → KeepsEntries (λ d. (begun_document A m d).1)
 begun_keeps A m = record { names = begun_names A m; entry = begun_entry A m }
@@ -124,7 +141,9 @@ delivered_entry Sync p m d none h = failed_entry p m d none h
 closed_by_entry : (p : Partner) (got : TryAnswer) (m : ℕ) (d : OutEntry) (o : Option ReceivedReceipt) → is_settled d ≡ false → IsEntry d
     → IsEntry (closed_by p got m d o).1
 closed_by_entry p got m d (Some r) none h = settled_entry m r d h
-closed_by_entry p got m d None none h = if_either IsEntry (is_delivery got) (delivered_document p.receipt p m d) (failed_try p m d) (delivered_entry p.receipt p m d none h) (failed_entry p m d none h)
+closed_by_entry p got m d None none h =
+    if_either IsEntry (is_delivery got) (delivered_document p.receipt p m d) (failed_try p m d)
+    (delivered_entry p.receipt p m d none h) (failed_entry p m d none h)
 
 abbrev closed_if : Partner → TryAnswer → ℕ → OutEntry → Option ReceivedReceipt → Bool → Bool → Answer × OutEntry
 closed_if p got m d o b1 b2 = if b1 then (AlreadySettled, d) else if b2 then (Refused NoOpenTry, d) else closed_by p got m d o
@@ -146,7 +165,10 @@ closed_keeps A known got m = record { names = closed_names A known got m; entry 
 -- ---- a document is sent anew
 
 abbrev resent_if : ℕ → OutEntry → Bool → Bool → Answer × OutEntry
-resent_if m d b1 b2 = if b1 then (Refused AllSettled, d) else if b2 then (Refused NotDue, d) else (Resent, record d { tries = 0; attempt = Idle; due = Some m; detail = New })
+resent_if m d b1 b2 =
+    if b1 then (Refused AllSettled, d)
+    else if b2 then (Refused NotDue, d)
+    else (Resent, record d { tries = 0; attempt = Idle; due = Some m; detail = New })
 
 resent_by : (m : ℕ) (d : OutEntry) (b1 b2 : Bool) → is_settled d ≡ b1 → IsEntry d → IsEntry (resent_if m d b1 b2).1
 resent_by m d true b2 is h = h

@@ -1,12 +1,18 @@
 -- Each step, and so each run, leads from a well formed state to a well formed one.
-use Rattle.std.proofs.Common.{◌≡◌, ℕ, ◌+◌, ◌<◌, Bool, true, false, not, [], ◌∷◌, ◌++◌, Option, Some, None, refl, sym, ap, ◌∙◌, subst, arith}
-use Rattle.std.specs.Prelude.{⊤, is_some, ◌==◌, if◌then◌else◌, nat_le, nat_lt, length, ◌&&◌}
+-- The plan: a document that is read from a post may be recorded (`reading_good`); a change of one box keeps it well formed, by `WellFormed`
+-- and `Standing`; `step_formed` has a clause for each event, by the box that the event changes, and gets one more for a new event.
+use Rattle.std.proofs.Common.{◌≡◌, ℕ, ◌<◌, Bool, true, false, not, [], ◌∷◌, Option, Some, None, refl, sym, ap, ◌∙◌, subst, arith}
+use Rattle.std.specs.Prelude.{⊤, is_some, ◌==◌, if◌then◌else◌, ◌&&◌}
 use Rattle.std.specs.List.{IsDistinct}
 use Rattle.std.proofs.lemmas.Option.{same_Some}
 use Rattle.as2_exchange.specs.Agreement.{Text, Agreements, is_organization, partner_of}
-use Rattle.as2_exchange.specs.Readings.{Head, MediaType, ReceiptAsk, Outcome as WhatBecame, Processed, DecryptionFailed, DecompressionFailed, AuthenticationFailed, UnsupportedFormat, UnsupportedMicAlgorithms, is_processed, mic_for, is_report, names_of, version_fits, type_of, id_of, ask_of, report_in, named_by}
-use Rattle.as2_exchange.specs.State.{Posted, InEntry, OutEntry, State, Digests, Version, known_digests, empty, end_of_numbers, document, document_named, received_entry, received_as, change_document, change_received, lasting_part, is_settled}
-use Rattle.as2_exchange.specs.Events.{Event, Post, Submit, Begin, Outcome, Resend, BeginReceipt, OutcomeReceipt, Tick, Answer, Refused, Submitted, UnknownOrganization, UnknownPartner, TooLarge, Line, BadNames, BadVersion, UnknownNames, BadType, UnreadableReceipt, BadId, BadAsk}
+use Rattle.as2_exchange.specs.Readings.{Head, MediaType, ReceiptAsk, Outcome as WhatBecame, Processed, DecryptionFailed, DecompressionFailed}
+use Rattle.as2_exchange.specs.Readings.{AuthenticationFailed, UnsupportedFormat, UnsupportedMicAlgorithms, is_processed}
+use Rattle.as2_exchange.specs.Readings.{mic_for, is_report, names_of, version_fits, type_of, id_of, ask_of, report_in, named_by}
+use Rattle.as2_exchange.specs.State.{Posted, InEntry, OutEntry, State, Digests, Version, known_digests, empty, end_of_numbers, document}
+use Rattle.as2_exchange.specs.State.{document_named, received_entry, received_as, change_document, change_received, lasting_part, is_settled}
+use Rattle.as2_exchange.specs.Events.{Event, Post, Submit, Begin, Outcome, Resend, BeginReceipt, OutcomeReceipt, Tick, Answer}
+use Rattle.as2_exchange.specs.Events.{Line, BadNames, BadVersion, UnknownNames, BadType, UnreadableReceipt, BadId, BadAsk}
 use Rattle.as2_exchange.specs.Posts.{ReceivedReceipt, PostReading, Refuses, IsReceipt, IsDocument, needs, report_posted, document_posted, post_reading}
 use Rattle.as2_exchange.specs.Documents.{settle, settle_for, settled_document, submit, new_document, begun_document, closed_document, resent_document, tick}
 use Rattle.as2_exchange.specs.OwedReceipts.{begun_receipt, closed_receipt}
@@ -15,8 +21,9 @@ use Rattle.as2_exchange.specs.Step.{post, step, act_on, act_in}
 use Rattle.as2_exchange.specs.Run.{Trace, Run, AnEvent, AMigration, Answered, Failed, migrated_state}
 use Rattle.as2_exchange.specs.Invariants.{IsCounter, IsRecorded, IsWellFormed}
 use Rattle.as2_exchange.proofs.Documents.{if_either}
-use Rattle.as2_exchange.proofs.Keeping.{is_left}
-use Rattle.as2_exchange.proofs.Repeats.{RecordedOrSame, fresh, repeated, clash, left_is, queued_lasting, receipt_begun_lasting, receipt_closed_lasting}
+use Rattle.as2_exchange.proofs.Submits.{document_taken, submit_either}
+use Rattle.as2_exchange.proofs.Repeats.{RecordedOrSame, fresh, repeated, clash, left_is, with_first}
+use Rattle.as2_exchange.proofs.Repeats.{queued_lasting, receipt_begun_lasting, receipt_closed_lasting}
 use Rattle.as2_exchange.proofs.WellFormed.{inbox_push, inbox_map, KeepsLasting, outbox_push, outbox_map, KeepsEntries, unsettled_entry}
 use Rattle.as2_exchange.proofs.Standing.{settled_keeps, changed_keeps, passed_keeps, begun_keeps, closed_keeps, resent_keeps}
 
@@ -84,10 +91,18 @@ changed_lasting n f kept e = by (e.number == n)
 
 received_formed : (A : Agreements) (s : State) (n : ℕ) (f : InEntry → InEntry) → ((e : InEntry) → lasting_part (f e) ≡ lasting_part e) → IsWellFormed A s
     → IsWellFormed A (change_received s n f)
-received_formed A s n f kept h = record { received = inbox_map s.next_in s.inbox (λ e. if e.number == n then f e else e) (keeps_lasting _ (changed_lasting n f kept)) h.received; sent = h.sent }
+received_formed A s n f kept h = record {
+  received = inbox_map s.next_in s.inbox (λ e. if e.number == n then f e else e) (keeps_lasting _ (changed_lasting n f kept)) h.received;
+  sent = h.sent;
+}
 
-document_formed : (A : Agreements) (s : State) (n : ℕ) (f : OutEntry → OutEntry) → KeepsEntries f → IsWellFormed A s → IsWellFormed A (change_document s n f)
+document_formed : (A : Agreements) (s : State) (n : ℕ) (f : OutEntry → OutEntry) → KeepsEntries f → IsWellFormed A s
+    → IsWellFormed A (change_document s n f)
 document_formed A s n f kept h = record { received = h.received; sent = outbox_map A s.next_out s.outbox _ (changed_keeps n f kept) h.sent }
+
+-- what an event leaves is well formed
+abbrev LeftFormed : Agreements → Answer × State → Type 0
+LeftFormed A y = IsWellFormed A y.1
 
 acted_formed : (A : Agreements) (s : State) (n : ℕ) (act : OutEntry → Answer × OutEntry) (o : Option OutEntry) → KeepsEntries (λ d. (act d).1)
     → IsWellFormed A s → IsWellFormed A (act_on s n act o).1
@@ -118,34 +133,33 @@ settle_formed A s m r h = settle_for_formed A s m r (document_named s (named_by 
 -- ---- what is taken in
 
 taken_formed : (A : Agreements) (s : State) (organization partner content : Text) (m : ℕ) → s.next_out < end_of_numbers → IsWellFormed A s
-    → IsWellFormed A (record s { outbox = s.outbox ++ new_document A s.next_out organization partner content m ∷ []; next_out = s.next_out + 1 })
+    → LeftFormed A (document_taken A s organization partner content m)
 taken_formed A s organization partner content m small h = record {
   received = h.received;
-  sent = outbox_push A s.next_out s.outbox (new_document A s.next_out organization partner content m) small refl refl (unsettled_entry _ refl refl (λ g. absurd (omega (arith, g)))) h.sent;
+  sent = outbox_push A s.next_out s.outbox new small refl refl (unsettled_entry _ refl refl (λ g. absurd (omega (arith, g)))) h.sent;
 }
+  where
+    new : OutEntry
+    new = new_document A s.next_out organization partner content m
 
 submit_formed : (A : Agreements) (s : State) (organization partner content : Text) (m : ℕ) (y : Answer × State) → IsWellFormed A s
     → submit A s organization partner content m ≡ Some y → IsWellFormed A y.1
-unfolding submit
-submit_formed A s organization partner content m y h e =
-    by (not (is_organization A organization)) (not (is_some (partner_of A partner))) (nat_lt 1048576 (length content)) (nat_le end_of_numbers s.next_out) refl e
-  where
-    by : (b1 b2 b3 b4 : Bool) → nat_le end_of_numbers s.next_out ≡ b4
-        → (if b1 then Some (Refused UnknownOrganization, s) else if b2 then Some (Refused UnknownPartner, s) else if b3 then Some (Refused TooLarge, s) else if b4 then None else Some (Submitted s.next_out, record s { outbox = s.outbox ++ new_document A s.next_out organization partner content m ∷ []; next_out = s.next_out + 1 })) ≡ Some y → IsWellFormed A y.1
-    by true b2 b3 b4 left g = subst (λ (z : Answer × State). IsWellFormed A z.1) (same_Some _ y g) h
-    by false true b3 b4 left g = subst (λ (z : Answer × State). IsWellFormed A z.1) (same_Some _ y g) h
-    by false false true b4 left g = subst (λ (z : Answer × State). IsWellFormed A z.1) (same_Some _ y g) h
-    by false false false true left g = absurd (cc)
-    by false false false false left g = subst (λ (z : Answer × State). IsWellFormed A z.1) (same_Some _ y g) (taken_formed A s organization partner content m (is_left s.next_out left) h)
+submit_formed A s organization partner content m y h =
+    submit_either (LeftFormed A) A s organization partner content m y (λ r. h)
+    (λ ours theirs small. taken_formed A s organization partner content m small h)
 
 first_formed : (A : Agreements) (s : State) (m : ℕ) (p : Posted) → s.next_in < end_of_numbers → IsRecorded p → received_as s p ≡ None → IsWellFormed A s
-    → IsWellFormed A (record s { inbox = s.inbox ++ first_entry s.next_in m p ∷ []; next_in = s.next_in + 1 })
-first_formed A s m p small good new h = record { received = inbox_push s.next_in s.inbox (first_entry s.next_in m p) small refl good new h.received; sent = h.sent }
+    → IsWellFormed A (with_first s m p)
+first_formed A s m p small good new h = record {
+  received = inbox_push s.next_in s.inbox (first_entry s.next_in m p) small refl good new h.received;
+  sent = h.sent;
+}
 
 left_formed : (A : Agreements) (s : State) (m : ℕ) (p : Posted) (o : Option InEntry) (y : Answer × State) → received_as s p ≡ o → IsRecorded p
     → IsWellFormed A s → RecordedOrSame A s m p o y → IsWellFormed A y.1
-left_formed A s m p o y at good h (fresh none small is) = subst (λ (z : Answer × State). IsWellFormed A z.1) (sym is) (first_formed A s m p small good (at ∙ none) h)
-left_formed A s m p o y at good h (repeated e there same is) = subst (λ (z : Answer × State). IsWellFormed A z.1) (sym is) (received_formed A s e.number (requeued_by_repeat m) (queued_lasting m) h)
+left_formed A s m p o y at good h (fresh none small is) = subst (LeftFormed A) (sym is) (first_formed A s m p small good (at ∙ none) h)
+left_formed A s m p o y at good h (repeated e there same is) =
+    subst (LeftFormed A) (sym is) (received_formed A s e.number (requeued_by_repeat m) (queued_lasting m) h)
 left_formed A s m p o y at good h (clash e there other is) = subst (IsWellFormed A) (sym is) h
 
 record_formed : (A : Agreements) (s : State) (m : ℕ) (p : Posted) (y : Answer × State) → IsRecorded p → IsWellFormed A s → record_post A s m p ≡ Some y
@@ -155,21 +169,27 @@ record_formed A s m p y good h e = left_formed A s m p (received_as s p) y refl 
 
 post_formed : (A : Agreements) (s : State) (m : ℕ) (r : PostReading) (y : Answer × State) → IsGood r → IsWellFormed A s → post A s m r ≡ Some y
     → IsWellFormed A y.1
-post_formed A s m (Refuses line) y good h e = subst (λ (z : Answer × State). IsWellFormed A z.1) (same_Some _ y e) h
-post_formed A s m (IsReceipt r) y good h e = subst (λ (z : Answer × State). IsWellFormed A z.1) (same_Some _ y e) (settle_formed A s m r h)
+post_formed A s m (Refuses line) y good h e = subst (LeftFormed A) (same_Some _ y e) h
+post_formed A s m (IsReceipt r) y good h e = subst (LeftFormed A) (same_Some _ y e) (settle_formed A s m r h)
 post_formed A s m (IsDocument p) y good h e = record_formed A s m p y (document_recorded (IsDocument p) p good refl) h e
 
 -- ---- a step and a run
 
 pub step_formed : (A : Agreements) (s : State) (e : Event) (y : Answer × State) → IsWellFormed A s → step A s e ≡ Some y → IsWellFormed A y.1
-step_formed A s (Post head body m) y h is = post_formed A s m (post_reading A (known_digests s.version) head body) y (reading_good A (known_digests s.version) head body) h is
+step_formed A s (Post head body m) y h is =
+    let read = post_reading A (known_digests s.version) head body in
+    post_formed A s m read y (reading_good A (known_digests s.version) head body) h is
 step_formed A s (Submit organization partner content m) y h is = submit_formed A s organization partner content m y h is
-step_formed A s (Begin n m) y h is = subst (λ (z : Answer × State). IsWellFormed A z.1) (same_Some _ y is) (acted_formed A s n (begun_document A m) (document s n) (begun_keeps A m) h)
-step_formed A s (Resend n m) y h is = subst (λ (z : Answer × State). IsWellFormed A z.1) (same_Some _ y is) (acted_formed A s n (resent_document A m) (document s n) (resent_keeps A m) h)
-step_formed A s (Outcome n got m) y h is = subst (λ (z : Answer × State). IsWellFormed A z.1) (same_Some _ y is) (acted_formed A s n (closed_document A (known_digests s.version) got m) (document s n) (closed_keeps A (known_digests s.version) got m) h)
-step_formed A s (BeginReceipt n m) y h is = subst (λ (z : Answer × State). IsWellFormed A z.1) (same_Some _ y is) (acted_in_formed A s n (begun_receipt A m) (received_entry s n) (receipt_begun_lasting A m) h)
-step_formed A s (OutcomeReceipt n got m) y h is = subst (λ (z : Answer × State). IsWellFormed A z.1) (same_Some _ y is) (acted_in_formed A s n (closed_receipt A got m) (received_entry s n) (receipt_closed_lasting A got m) h)
-step_formed A s (Tick m) y h is = subst (λ (z : Answer × State). IsWellFormed A z.1) (same_Some _ y is) (tick_formed A m s h)
+step_formed A s (Begin n m) y h is = subst (LeftFormed A) (same_Some _ y is) (acted_formed A s n (begun_document A m) (document s n) (begun_keeps A m) h)
+step_formed A s (Resend n m) y h is = subst (LeftFormed A) (same_Some _ y is) (acted_formed A s n (resent_document A m) (document s n) (resent_keeps A m) h)
+step_formed A s (Outcome n got m) y h is =
+    let known = known_digests s.version in
+    subst (LeftFormed A) (same_Some _ y is) (acted_formed A s n (closed_document A known got m) (document s n) (closed_keeps A known got m) h)
+step_formed A s (BeginReceipt n m) y h is =
+    subst (LeftFormed A) (same_Some _ y is) (acted_in_formed A s n (begun_receipt A m) (received_entry s n) (receipt_begun_lasting A m) h)
+step_formed A s (OutcomeReceipt n got m) y h is =
+    subst (LeftFormed A) (same_Some _ y is) (acted_in_formed A s n (closed_receipt A got m) (received_entry s n) (receipt_closed_lasting A got m) h)
+step_formed A s (Tick m) y h is = subst (LeftFormed A) (same_Some _ y is) (tick_formed A m s h)
 
 pub empty_formed : (A : Agreements) (v : Version) (first : ℕ) → IsCounter first → IsWellFormed A (empty v first)
 unfolding IsDistinct

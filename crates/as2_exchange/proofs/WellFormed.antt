@@ -41,9 +41,14 @@ pub inbox_push : (n : ℕ) (es : List InEntry) (e : InEntry) → n < end_of_numb
     → find (λ (x : InEntry). same_key x.posted e.posted) es ≡ None → IsInbox n es → IsInbox (n + 1) (es ++ e ∷ [])
 inbox_push n es e small num good new h = record {
   counter = counted n small h.counter;
-  numbers = subst (AreNumbers (n + 1)) (sym (map_last (λ (x : InEntry). x.number) es e ∙ ap (λ k. map (λ (x : InEntry). x.number) es ++ k ∷ []) num)) (numbers_push n (map (λ (x : InEntry). x.number) es) h.numbers);
-  keys = subst (IsDistinct same_key) (sym (map_last (λ (x : InEntry). x.posted) es e)) (distinct_push same_key (map (λ (x : InEntry). x.posted) es) e.posted h.keys (none_found (λ (x : InEntry). x.posted) (λ (p : Posted). same_key p e.posted) es new));
-  recorded = subst (AllByRecursion IsRecorded) (sym (map_last (λ (x : InEntry). x.posted) es e)) (all_push IsRecorded (map (λ (x : InEntry). x.posted) es) e.posted h.recorded good);
+  numbers = subst (AreNumbers (n + 1))
+      (sym (map_last (λ (x : InEntry). x.number) es e ∙ ap (λ k. map (λ (x : InEntry). x.number) es ++ k ∷ []) num))
+      (numbers_push n (map (λ (x : InEntry). x.number) es) h.numbers);
+  keys = subst (IsDistinct same_key) (sym (map_last (λ (x : InEntry). x.posted) es e))
+      (distinct_push same_key (map (λ (x : InEntry). x.posted) es) e.posted h.keys
+      (none_found (λ (x : InEntry). x.posted) (λ (p : Posted). same_key p e.posted) es new));
+  recorded = subst (AllByRecursion IsRecorded) (sym (map_last (λ (x : InEntry). x.posted) es e))
+      (all_push IsRecorded (map (λ (x : InEntry). x.posted) es) e.posted h.recorded good);
 }
 
 -- a change that leaves number and document
@@ -71,16 +76,22 @@ other_ids A n small (d ∷ ds) named below = (by (bytes_eq (value_of d.id) (valu
     by : (b : Bool) → bytes_eq (value_of d.id) (value_of (out_id A n)) ≡ b → b ≡ false
     by false is = refl
     by true is =
-        let same : d.number ≡ n = out_id-injective A d.number n (omega (arith, below.0)) small (sym (ap value_of named.0) ∙ (bytes_eq-Decides (value_of d.id) (value_of (out_id A n))).0 is) in
+        let one : value_of d.id ≡ value_of (out_id A n) = (bytes_eq-Decides (value_of d.id) (value_of (out_id A n))).0 is in
+        let same : d.number ≡ n = out_id-injective A d.number n (omega (arith, below.0)) small (sym (ap value_of named.0) ∙ one) in
         absurd (omega (arith, below.0))
 
 pub outbox_push : (A : Agreements) (n : ℕ) (ds : List OutEntry) (d : OutEntry) → n < end_of_numbers → d.number ≡ n → d.id ≡ out_id A n → IsEntry d
     → IsOutbox A n ds → IsOutbox A (n + 1) (ds ++ d ∷ [])
 outbox_push A n ds d small num id good h = record {
   counter = counted n small h.counter;
-  numbers = subst (AreNumbers (n + 1)) (sym (map_last (λ (x : OutEntry). x.number) ds d ∙ ap (λ k. map (λ (x : OutEntry). x.number) ds ++ k ∷ []) num)) (numbers_push n (map (λ (x : OutEntry). x.number) ds) h.numbers);
+  numbers = subst (AreNumbers (n + 1))
+      (sym (map_last (λ (x : OutEntry). x.number) ds d ∙ ap (λ k. map (λ (x : OutEntry). x.number) ds ++ k ∷ []) num))
+      (numbers_push n (map (λ (x : OutEntry). x.number) ds) h.numbers);
   named = all_push (λ (x : OutEntry). x.id ≡ out_id A x.number) ds d h.named (id ∙ ap (out_id A) (sym num));
-  identifiers = subst (IsDistinct bytes_eq) (sym (map_last (λ (x : OutEntry). value_of x.id) ds d ∙ ap (λ k. map (λ (x : OutEntry). value_of x.id) ds ++ value_of k ∷ []) id)) (distinct_push bytes_eq (map (λ (x : OutEntry). value_of x.id) ds) (value_of (out_id A n)) h.identifiers (other_ids A n small ds h.named h.numbers.below));
+  identifiers = subst (IsDistinct bytes_eq)
+      (sym (map_last (λ (x : OutEntry). value_of x.id) ds d ∙ ap (λ k. map (λ (x : OutEntry). value_of x.id) ds ++ value_of k ∷ []) id))
+      (distinct_push bytes_eq (map (λ (x : OutEntry). value_of x.id) ds) (value_of (out_id A n)) h.identifiers
+      (other_ids A n small ds h.named h.numbers.below));
   entries = all_push IsEntry ds d h.entries good;
 }
 

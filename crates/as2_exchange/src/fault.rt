@@ -3,6 +3,7 @@
 ghost use Rattle.std.specs.Prelude.{◌≡◌};
 ghost use Rattle.as2_exchange.specs.declared.fault.StoreFault.TheVariants.{Memory as OutOfMemory};
 
+use crate::RowPlace;
 use as2_text::Memory;
 
 /// Why a store couldn't answer. A fault changes nothing.
@@ -12,8 +13,10 @@ pub enum StoreFault {
     Memory,
     /// The disk failed.
     Disk,
-    /// The database refused, or holds a row that is no entry.
+    /// The database refused, or answered what can't be.
     Refused,
+    /// The row that stands there is damaged: it is none that was written.
+    Damaged(RowPlace),
     /// The number that is needed is used up.
     Full,
     /// The database is no store of a station.

@@ -66,7 +66,8 @@ last_passes test (c ∷ f) b all = last_passes test f b (All-tail (λ v. test v 
 front_passes : (test : ℕ → Bool) (xs ys : List ℕ) → AllPass test (xs ++ ys) → AllPass test xs
 front_passes test [] ys all = All-nil (λ v. test v ≡ true)
 front_passes test (c ∷ xs) ys all =
-    All-cons (λ v. test v ≡ true) c xs (All-head (λ v. test v ≡ true) c (xs ++ ys) all) (front_passes test xs ys (All-tail (λ v. test v ≡ true) c (xs ++ ys) all))
+    All-cons (λ v. test v ≡ true) c xs (All-head (λ v. test v ≡ true) c (xs ++ ys) all)
+    (front_passes test xs ys (All-tail (λ v. test v ≡ true) c (xs ++ ys) all))
 
 -- CR LF comes, where the text doesn't end in CR
 plain_room : (buf ahead k : List ℕ) (test : ℕ → Bool) → buf ≡ ahead ++ k → AllPass test k → (test 13 ≡ true → ⊥) → (k ≡ [] → length ahead ≤ 1022) → Room buf
@@ -83,15 +84,28 @@ behind_digits : (buf k : List ℕ) (l : ChunkLine) → IsChunkLine l → buf ≡
 behind_digits buf k l is e all room =
     let short = plain_room buf l.digits k is_ows e all (λ t. absurd cc) (λ none. omega (arith, is.digits.1)) room in
     finish buf (record { digits = l.digits; pad = k; extension = None }) (13 ∷ 10 ∷ []) (record { digits = is.digits; pad = all; extension = tt })
-    (ap (λ (t : List ℕ). t ++ 13 ∷ 10 ∷ []) (e ∙ ap (λ (t : List ℕ). l.digits ++ t) (sym (append-nil k))) ∙ sym (spelled (record { digits = l.digits; pad = k; extension = None }))) short
+    (ap (λ (t : List ℕ). t ++ 13 ∷ 10 ∷ []) (e ∙ ap (λ (t : List ℕ). l.digits ++ t) (sym (append-nil k)))
+    ∙ sym (spelled (record { digits = l.digits; pad = k; extension = None }))) short
 
 in_digits : (buf k : List ℕ) (l : ChunkLine) → IsChunkLine l → l.digits ≡ buf ++ k → MayHaveLine buf
 in_digits [] k l is e = finish [] (record { digits = 48 ∷ []; pad = []; extension = None }) (48 ∷ 13 ∷ 10 ∷ [])
-    (record { digits = (omega arith, omega arith, All-cons (λ v. is_ascii_hexdigit v ≡ true) 48 [] refl (All-nil (λ v. is_ascii_hexdigit v ≡ true))); pad = All-nil (λ v. is_ows v ≡ true); extension = tt })
+    (record {
+      digits = (
+        omega arith,
+        omega arith,
+        All-cons (λ v. is_ascii_hexdigit v ≡ true) 48 [] refl (All-nil (λ v. is_ascii_hexdigit v ≡ true)),
+      );
+      pad = All-nil (λ v. is_ows v ≡ true);
+      extension = tt;
+    })
     (sym (spelled (record { digits = 48 ∷ []; pad = []; extension = None }))) (omega arith)
 in_digits (b ∷ buf) k l is e = finish (b ∷ buf) (record { digits = b ∷ buf; pad = []; extension = None }) (13 ∷ 10 ∷ [])
     (record {
-      digits = (omega arith, omega (arith, is.digits.1, ap length e, length-append (b ∷ buf) k), front_passes is_ascii_hexdigit (b ∷ buf) k (subst (AllPass is_ascii_hexdigit) e is.digits.2));
+      digits = (
+        omega arith,
+        omega (arith, is.digits.1, ap length e, length-append (b ∷ buf) k),
+        front_passes is_ascii_hexdigit (b ∷ buf) k (subst (AllPass is_ascii_hexdigit) e is.digits.2),
+      );
       pad = All-nil (λ v. is_ows v ≡ true);
       extension = tt;
     })
@@ -101,7 +115,8 @@ in_digits (b ∷ buf) k l is e = finish (b ∷ buf) (record { digits = b ∷ buf
 -- in the extension, behind its semicolon
 in_extension : (buf k : List ℕ) (l : ChunkLine) → IsChunkLine l → buf ≡ (l.digits ++ l.pad) ++ 59 ∷ k → AllPass is_extension_byte k → Room buf → MayHaveLine buf
 in_extension buf k l is e all room =
-    let short = plain_room buf (l.digits ++ l.pad) (59 ∷ k) is_extension_byte e (All-cons (λ v. is_extension_byte v ≡ true) 59 k refl all) (λ t. absurd cc) (λ none. absurd cc) room in
+    let short = plain_room buf (l.digits ++ l.pad) (59 ∷ k) is_extension_byte e (All-cons (λ v. is_extension_byte v ≡ true) 59 k refl all)
+    (λ t. absurd cc) (λ none. absurd cc) room in
     let longer : ChunkLine = record { digits = l.digits; pad = l.pad; extension = Some k } in
     finish buf longer (13 ∷ 10 ∷ []) (record { digits = is.digits; pad = is.pad; extension = all })
     (ap (λ (t : List ℕ). t ++ 13 ∷ 10 ∷ []) (e ∙ append_assoc l.digits l.pad (59 ∷ k)) ∙ sym (spelled longer)) short
@@ -129,12 +144,15 @@ behind_pad buf (c ∷ k) m l (Some text) is x e b r room =
     let here : buf ≡ (l.digits ++ l.pad) ++ 59 ∷ k = b ∙ ap (λ (d : ℕ). (l.digits ++ l.pad) ++ d ∷ k) semi in
     elim (cut k m text (13 ∷ 10 ∷ []) (sym rest)) [
       | inl h ↦ in_extension buf k l is here (front_passes is_extension_byte k h.0 (subst (AllPass is_extension_byte) h.1 all)) room
-      | inr h ↦ in_end buf h.0 m l is e h.2 (λ none. in_extension buf k l is here (subst (AllPass is_extension_byte) (sym (h.1 ∙ ap (λ (t : List ℕ). text ++ t) none ∙ append-nil text)) all) room) room
+      | inr h ↦ in_end buf h.0 m l is e h.2
+          (λ none. in_extension buf k l is here
+          (subst (AllPass is_extension_byte) (sym (h.1 ∙ ap (λ (t : List ℕ). text ++ t) none ∙ append-nil text)) all) room) room
     ]
 
 may_have : (buf m : List ℕ) (l : ChunkLine) → IsChunkLine l → buf ++ m ≡ print_chunk_line l → Room buf → MayHaveLine buf
 may_have buf m l is e room =
-    let e2 : buf ++ m ≡ l.digits ++ (l.pad ++ (print_extension l.extension ++ 13 ∷ 10 ∷ [])) = e ∙ spelled l ∙ append_assoc l.digits (l.pad ++ print_extension l.extension) (13 ∷ 10 ∷ [])
+    let e2 : buf ++ m ≡ l.digits ++ (l.pad ++ (print_extension l.extension ++ 13 ∷ 10 ∷ [])) = e ∙ spelled l
+    ∙ append_assoc l.digits (l.pad ++ print_extension l.extension) (13 ∷ 10 ∷ [])
     ∙ ap (λ (t : List ℕ). l.digits ++ t) (append_assoc l.pad (print_extension l.extension) (13 ∷ 10 ∷ [])) in
     elim (cut buf m l.digits (l.pad ++ (print_extension l.extension ++ 13 ∷ 10 ∷ [])) e2) [
       | inl h ↦ in_digits buf h.0 l is h.1
@@ -197,8 +215,11 @@ pub line_found : (buf : List ℕ) (n size : ℕ) (l : ChunkLine) → IsChunkLine
     × HasLine buf size (drop n buf)
 line_found buf n size l at short =
     let whole : length buf ≡ length (print_chunk_line l) + length (drop n buf) = ap length at.reads.1 ∙ length-append (print_chunk_line l) (drop n buf) in
-    let some : length (print_chunk_line l) ≡ length (text_of l) + 2 = ap length (spelled l) ∙ length-append (text_of l) (13 ∷ 10 ∷ []) in
-    (omega (arith, some, at.len_is), omega (arith, whole, at.len_is), record { line = l; reads = at.reads; short = omega (arith, whole, short); says = sym at.size_is })
+    let some : length (print_chunk_line l) ≡ length (text_of l) + 2 = ap length (spelled l) ∙ length-append (text_of l) (13 ∷ 10 ∷ []) in (
+      omega (arith, some, at.len_is),
+      omega (arith, whole, at.len_is),
+      record { line = l; reads = at.reads; short = omega (arith, whole, short); says = sym at.size_is },
+    )
 
 pub has_line_append : (text more after : List ℕ) (size : ℕ) → HasLine text size after → HasLine (text ++ more) size (after ++ more)
 has_line_append text more after size h = record { line = h.line; reads = ReadsChunkLine-append text h.line after more h.reads; short = h.short; says = h.says }
@@ -213,15 +234,31 @@ pub open_short : (buf : List ℕ) → HasNoLine buf → MayHaveLine buf → leng
 open_short buf none may =
     let h = may.3 in
     elim (cut buf may.0 (print_chunk_line h.line) may.2 h.reads.1) [
-      | inl k ↦ shorter buf k.0 h.line k.1 h.short (λ whole. none may.1 [] (record { line = h.line; reads = (h.reads.0, whole); short = h.short; says = h.says }))
+      | inl k ↦ shorter buf k.0 h.line k.1 h.short
+          (λ whole. none may.1 [] (record { line = h.line; reads = (h.reads.0, whole); short = h.short; says = h.says }))
       | inr k ↦ absurd (none may.1 k.0 (record { line = h.line; reads = (h.reads.0, k.1); short = h.short; says = h.says }))
     ]
 
 -- nothing of a line came, and one may
 pub nothing_open : HasNoLine [] × MayHaveLine []
 nothing_open = (
-  λ size after h. omega (arith, ap length h.reads.1, length-append (print_chunk_line h.line) after, ap length (spelled h.line), length-append (text_of h.line) (13 ∷ 10 ∷ [])),
-  in_digits [] (48 ∷ []) (record { digits = 48 ∷ []; pad = []; extension = None }) (record { digits = (omega arith, omega arith, All-cons (λ v. is_ascii_hexdigit v ≡ true) 48 [] refl (All-nil (λ v. is_ascii_hexdigit v ≡ true))); pad = All-nil (λ v. is_ows v ≡ true); extension = tt }) refl,
+  λ size after h. omega (
+    arith,
+    ap length h.reads.1,
+    length-append (print_chunk_line h.line) after,
+    ap length (spelled h.line),
+    length-append (text_of h.line) (13 ∷ 10 ∷ []),
+  ),
+  in_digits [] (48 ∷ []) (record { digits = 48 ∷ []; pad = []; extension = None })
+      (record {
+        digits = (
+          omega arith,
+          omega arith,
+          All-cons (λ v. is_ascii_hexdigit v ≡ true) 48 [] refl (All-nil (λ v. is_ascii_hexdigit v ≡ true)),
+        );
+        pad = All-nil (λ v. is_ows v ≡ true);
+        extension = tt;
+      }) refl,
 )
 
 -- a line behind bytes in which none was ends in what follows them
@@ -232,8 +269,15 @@ line_behind kept rest size n none within h =
       | inl less ↦ less
       | inr past ↦
           let tail : drop n (kept ++ rest) ≡ drop n kept ++ rest = drop-append-le n kept rest past in
-          let e : kept ++ rest ≡ (print_chunk_line h.line ++ drop n kept) ++ rest = h.reads.1 ∙ ap (λ (t : List ℕ). print_chunk_line h.line ++ t) tail ∙ sym (append_assoc (print_chunk_line h.line) (drop n kept) rest) in
-          absurd (none size (drop n kept) (record { line = h.line; reads = (h.reads.0, append_cancel_right kept (print_chunk_line h.line ++ drop n kept) rest e); short = h.short; says = h.says }))
+          let e : kept ++ rest ≡ (print_chunk_line h.line ++ drop n kept) ++ rest = h.reads.1
+          ∙ ap (λ (t : List ℕ). print_chunk_line h.line ++ t) tail ∙ sym (append_assoc (print_chunk_line h.line) (drop n kept) rest) in
+          absurd (none size (drop n kept)
+          (record {
+            line = h.line;
+            reads = (h.reads.0, append_cancel_right kept (print_chunk_line h.line ++ drop n kept) rest e);
+            short = h.short;
+            says = h.says;
+          }))
     ]
 
 pub nil_of : (xs : List ℕ) → length xs ≡ 0 → xs ≡ []

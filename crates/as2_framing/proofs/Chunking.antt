@@ -49,7 +49,8 @@ pub behind_push : (text at bytes chunk after : List ℕ) → IsBehind text at by
 behind_push text at bytes chunk after b c fits = record {
   chunks = b.chunks ++ chunk ∷ [];
   all = chunks_push b.chunks text at chunk after b.all c;
-  joined = ap (λ (t : List ℕ). t ++ chunk) b.joined ∙ ap (λ (t : List ℕ). concat b.chunks ++ t) (sym (append-nil chunk)) ∙ sym (concat-append b.chunks (chunk ∷ []));
+  joined = ap (λ (t : List ℕ). t ++ chunk) b.joined ∙ ap (λ (t : List ℕ). concat b.chunks ++ t) (sym (append-nil chunk))
+      ∙ sym (concat-append b.chunks (chunk ∷ []));
   short = omega (arith, fits, length-append bytes chunk);
 }
 
@@ -62,7 +63,8 @@ on : (xs ys more : List ℕ) → xs ≡ ys ++ [] → xs ++ more ≡ ys ++ more
 on xs ys more e = ap (λ (t : List ℕ). t ++ more) (e ∙ append-nil ys)
 
 line_more : (kept body text more : List ℕ) → HoldsLine kept body text [] → HoldsLine kept body (text ++ more) more
-line_more kept body text more h = record { at = h.at ++ more; behind = behind_append text h.at body more h.behind; follows = on h.at kept more h.follows; none = h.none; may = h.may }
+line_more kept body text more h =
+    record { at = h.at ++ more; behind = behind_append text h.at body more h.behind; follows = on h.at kept more h.follows; none = h.none; may = h.may }
 
 bytes_more : (missing : ℕ) (body text more : List ℕ) → HoldsBytes missing body text [] → HoldsBytes missing body (text ++ more) more
 bytes_more missing body text more h = record {
@@ -129,7 +131,8 @@ at_open place.Line kept body text h =
     let same : kept ≡ h.at = sym (h.follows ∙ append-nil kept) in
     in_line h.at body h.behind (subst HasNoLine same h.none) (subst MayHaveLine same h.may)
 at_open (place.Bytes missing) kept body text h =
-    in_bytes h.1.at h.1.bytes h.1.size h.1.after h.1.behind h.1.line h.1.fits (omega (arith, h.1.counted, h.1.some, ap length (h.1.follows ∙ append-nil h.1.part)))
+    in_bytes h.1.at h.1.bytes h.1.size h.1.after h.1.behind h.1.line h.1.fits
+    (omega (arith, h.1.counted, h.1.some, ap length (h.1.follows ∙ append-nil h.1.part)))
 at_open place.Behind kept body text h = in_end h.1.at h.1.bytes h.1.chunk h.1.after [] h.1.behind h.1.line h.1.some h.1.fits h.1.follows (inl refl)
 at_open place.Return kept body text h = in_end h.1.at h.1.bytes h.1.chunk h.1.after (13 ∷ []) h.1.behind h.1.line h.1.some h.1.fits h.1.follows (inr refl)
 at_open (place.Trailer count line) kept body text h =
@@ -177,7 +180,8 @@ take_short n xs less =
 -- the text in which a line is looked for, and what stands behind it
 looked_in : (m : ℕ) (kept front rest at : List ℕ) → front ≡ take m rest → at ≡ kept ++ rest → at ≡ (kept ++ front) ++ drop m rest
 looked_in m kept front rest at is follows =
-    follows ∙ ap (λ (t : List ℕ). kept ++ t) (sym (take-append-drop m rest) ∙ ap (λ (t : List ℕ). t ++ drop m rest) (sym is)) ∙ sym (append_assoc kept front (drop m rest))
+    follows ∙ ap (λ (t : List ℕ). kept ++ t) (sym (take-append-drop m rest) ∙ ap (λ (t : List ℕ). t ++ drop m rest) (sym is))
+    ∙ sym (append_assoc kept front (drop m rest))
 
 pub finds_open : (kept front rest body text : List ℕ) → front ≡ take (1024 - length kept) rest → HasNoLine (kept ++ front) × MayHaveLine (kept ++ front)
     → HoldsLine kept body text rest → HoldsLine (kept ++ front) body text []
@@ -209,14 +213,16 @@ finds_line kept front rest body text n size is found h =
     let line = has_line_append (kept ++ front) (drop m rest) (drop n (kept ++ front)) size found.2 in (
       h.at,
       h.behind,
-      subst (λ (t : List ℕ). HasLine t size (drop k rest)) (sym (looked_in m kept front rest h.at is h.follows)) (subst (HasLine ((kept ++ front) ++ drop m rest) size) tail line),
+      subst (λ (t : List ℕ). HasLine t size (drop k rest)) (sym (looked_in m kept front rest h.at is h.follows))
+          (subst (HasLine ((kept ++ front) ++ drop m rest) size) tail line),
     )
 
 pub finds_bad : (m : ℕ) (kept front rest body text : List ℕ) → front ≡ take m rest → NeverHasLine (kept ++ front) → HoldsLine kept body text rest
     → IsBadChunk text
 finds_bad m kept front rest body text is never h =
     bad_line h.at body h.behind (λ more size after l. never (drop m rest ++ more) size after
-    (subst (λ (t : List ℕ). HasLine t size after) (ap (λ (t : List ℕ). t ++ more) (looked_in m kept front rest h.at is h.follows) ∙ append_assoc (kept ++ front) (drop m rest) more) l))
+    (subst (λ (t : List ℕ). HasLine t size after)
+    (ap (λ (t : List ℕ). t ++ more) (looked_in m kept front rest h.at is h.follows) ∙ append_assoc (kept ++ front) (drop m rest) more) l))
 
 -- ---- behind a chunk line
 
@@ -254,7 +260,8 @@ begins_bytes body text rest n size some fits found = record {
 
 pub too_large : (body text rest : List ℕ) (n size : ℕ) → 1048576 < length body + size → (at : List ℕ) × IsBehind text at body × HasLine at size (drop n rest)
     → IsTooLarge text
-too_large body text rest n size large found = record { at = found.0; bytes = body; size = size; after = drop n rest; behind = found.1; line = found.2; large = large }
+too_large body text rest n size large found =
+    record { at = found.0; bytes = body; size = size; after = drop n rest; behind = found.1; line = found.2; large = large }
 
 -- ---- the bytes of a chunk
 
@@ -288,7 +295,8 @@ takes_chunk missing body text rest within h =
       behind = h.behind;
       line = subst (λ (n : ℕ). HasLine h.at n h.after) size h.line;
       some = omega (arith, size, h.counted, h.some);
-      follows = h.follows ∙ ap (λ (t : List ℕ). h.part ++ t) (sym (take-append-drop missing rest)) ∙ sym (append_assoc h.part (take missing rest) (drop missing rest));
+      follows = h.follows ∙ ap (λ (t : List ℕ). h.part ++ t) (sym (take-append-drop missing rest))
+          ∙ sym (append_assoc h.part (take missing rest) (drop missing rest));
       joined = ap (λ (t : List ℕ). t ++ take missing rest) h.joined ∙ append_assoc h.bytes h.part (take missing rest);
       fits = omega (arith, size, h.fits);
     }
@@ -330,7 +338,8 @@ no_feed body text rest some is h = bad_end h.at h.bytes h.chunk h.after (13 ∷ 
 
 pub takes_feed : (body text rest : List ℕ) → 0 < length rest → get_or rest 0 0 ≡ 10 → HoldsChunk (13 ∷ []) body text rest → HoldsLine [] body text (drop 1 rest)
 takes_feed body text rest some is h =
-    let chunk : HasChunk h.at h.chunk (drop 1 rest) = record { behind = h.after; line = h.line; some = h.some; follows = h.follows ∙ ap (λ (t : List ℕ). h.chunk ++ 13 ∷ t) (first_is rest 10 some is) } in
+    let chunk : HasChunk h.at h.chunk (drop 1 rest) =
+    record { behind = h.after; line = h.line; some = h.some; follows = h.follows ∙ ap (λ (t : List ℕ). h.chunk ++ 13 ∷ t) (first_is rest 10 some is) } in
     record {
       at = drop 1 rest;
       behind = subst (IsBehind text (drop 1 rest)) (sym h.joined) (behind_push text h.at h.bytes h.chunk (drop 1 rest) h.behind chunk h.fits);
@@ -345,7 +354,8 @@ pub takes_end : (count : ℕ) (line : LineSoFar) (front body text rest : List �
     → HoldsTrailer count line body text rest → BeginsChunked text body (drop k rest)
 takes_end count line front body text rest k is end h =
     let ran : Runs h.came front 0 (Ended k) = subst (Runs h.came front 0) end (runs front h.came 0 line h.none h.last) in
-    let split : rest ≡ front ++ drop (16384 - count) rest = sym (take-append-drop (16384 - count) rest) ∙ ap (λ (t : List ℕ). t ++ drop (16384 - count) rest) (sym is) in
+    let split : rest ≡ front ++ drop (16384 - count) rest = sym (take-append-drop (16384 - count) rest)
+    ∙ ap (λ (t : List ℕ). t ++ drop (16384 - count) rest) (sym is) in
     let fits : length h.came + length front ≤ 16384 = omega (arith, h.counted, h.short, ap length is, length_take (16384 - count) rest) in
     let same : k ≡ ran.0 = omega (arith, ran.1) in
     let ends = trailer_ends h.came rest front ran.0 (drop (16384 - count) rest, split) ran.2 fits ran.4 in
@@ -371,7 +381,8 @@ takes_trailer count line next front body text rest is opened room h =
       came = h.came ++ front;
       behind = h.behind;
       says = h.says;
-      follows = h.follows ∙ ap (λ (t : List ℕ). h.came ++ t) (sym all) ∙ sym (append-nil (h.came ++ front)) ∙ ap (λ (t : List ℕ). (h.came ++ front) ++ t) (sym (drop_all (length front) rest (omega (arith, ap length all))));
+      follows = h.follows ∙ ap (λ (t : List ℕ). h.came ++ t) (sym all) ∙ sym (append-nil (h.came ++ front))
+          ∙ ap (λ (t : List ℕ). (h.came ++ front) ++ t) (sym (drop_all (length front) rest (omega (arith, ap length all))));
       counted = omega (arith, h.counted, room, some, length-append h.came front);
       none = ran.0;
       last = ran.1;
@@ -383,8 +394,10 @@ pub bad_trailer_of : (count : ℕ) (line next : LineSoFar) (front body text rest
     → 16384 - count < length front + missing_of next → HoldsTrailer count line body text rest → IsBadChunk text
 bad_trailer_of count line next front body text rest is opened long h =
     let ran : Runs h.came front 0 (Open next) = subst (Runs h.came front 0) opened (runs front h.came 0 line h.none h.last) in
-    let split : rest ≡ front ++ drop (16384 - count) rest = sym (take-append-drop (16384 - count) rest) ∙ ap (λ (t : List ℕ). t ++ drop (16384 - count) rest) (sym is) in
-    let whole : h.trailer ≡ (h.came ++ front) ++ drop (16384 - count) rest = h.follows ∙ ap (λ (t : List ℕ). h.came ++ t) split ∙ sym (append_assoc h.came front (drop (16384 - count) rest)) in
+    let split : rest ≡ front ++ drop (16384 - count) rest = sym (take-append-drop (16384 - count) rest)
+    ∙ ap (λ (t : List ℕ). t ++ drop (16384 - count) rest) (sym is) in
+    let whole : h.trailer ≡ (h.came ++ front) ++ drop (16384 - count) rest = h.follows ∙ ap (λ (t : List ℕ). h.came ++ t) split
+    ∙ sym (append_assoc h.came front (drop (16384 - count) rest)) in
     bad_trailer h.at body h.trailer h.behind h.says
     (subst NeverHasTrailer (sym whole) (never_on (h.came ++ front) (drop (16384 - count) rest)
     (trailer_never (h.came ++ front) next ran.0 ran.1 (omega (arith, long, h.counted, h.short, length-append h.came front)))))

@@ -53,10 +53,20 @@ pub added_none : (old new : HeadBytes) (text front : List ℕ) (blank : ℕ) (li
     → scan_from 0 old.line (drop blank front) ≡ Open line → new.text.items ≡ old.text.items ++ drop blank front → new.skipped ≡ old.skipped + blank
     → new.line ≡ line → HoldsText new (text ++ front)
 added_none old new text front blank line h k le s items skipped same =
-    let r : Runs old.text.items (drop blank front) 0 (Open line) = subst (Runs old.text.items (drop blank front) 0) s (runs (drop blank front) old.text.items 0 old.line h.none h.line) in
+    let r : Runs old.text.items (drop blank front) 0 (Open line) =
+    subst (Runs old.text.items (drop blank front) 0) s (runs (drop blank front) old.text.items 0 old.line h.none h.line) in
     record {
       behind = unblank_on old.text.items text front blank h.behind k ∙ sym items;
-      counted = omega (arith, ap length items, length-append old.text.items (drop blank front), length-drop blank front, le, h.counted, length-append text front, skipped);
+      counted = omega (
+        arith,
+        ap length items,
+        length-append old.text.items (drop blank front),
+        length-drop blank front,
+        le,
+        h.counted,
+        length-append text front,
+        skipped,
+      );
       none = ap up_to_empty_line items ∙ r.0;
       line = ap (line_in Nothing) items ∙ r.1 ∙ sym same;
     }
@@ -74,16 +84,19 @@ added_some old new text front blank count h k le room s items =
     let u : unblank (text ++ front) ≡ old.text.items ++ rest = unblank_on old.text.items text front blank h.behind k in
     let cut : take count rest ++ drop count rest ≡ rest = take-append-drop count rest in
     let kept : old.text.items ++ rest ≡ new.text.items ++ drop count rest =
-    ap (λ (t : List ℕ). old.text.items ++ t) (sym cut) ∙ sym (append_assoc old.text.items (take count rest) (drop count rest)) ∙ ap (λ (t : List ℕ). t ++ drop count rest) (sym items) in
+    ap (λ (t : List ℕ). old.text.items ++ t) (sym cut) ∙ sym (append_assoc old.text.items (take count rest) (drop count rest))
+    ∙ ap (λ (t : List ℕ). t ++ drop count rest) (sym items) in
     let size : length (take count rest) ≡ count = length-take-le count rest (omega (arith, m, r.2)) in
     let all : length new.text.items ≡ length old.text.items + count = omega (arith, ap length items, length-append old.text.items (take count rest), size) in
-    let ends : up_to_empty_line (old.text.items ++ take count rest) ≡ Some (length old.text.items + count) = subst (λ (n : ℕ). up_to_empty_line (old.text.items ++ take n rest) ≡ Some (length old.text.items + n)) (sym m) r.4 in
+    let ends : up_to_empty_line (old.text.items ++ take count rest) ≡ Some (length old.text.items + count) =
+    subst (λ (n : ℕ). up_to_empty_line (old.text.items ++ take n rest) ≡ Some (length old.text.items + n)) (sym m) r.4 in
     let here : up_to_empty_line new.text.items ≡ Some (length new.text.items) = ap up_to_empty_line items ∙ ends ∙ ap (λ (n : ℕ). Some n) (sym all) in
     record {
       some = omega (arith, m, r.3);
       within = omega (arith, m, r.2, length-drop blank front, le);
       found = (
-        ap up_to_empty_line (short_window (text ++ front) (omega (arith, length-append text front, h.counted, room)) ∙ u ∙ kept) ∙ line_stays new.text.items (drop count rest) (length new.text.items) here,
+        ap up_to_empty_line (short_window (text ++ front) (omega (arith, length-append text front, h.counted, room)) ∙ u ∙ kept)
+            ∙ line_stays new.text.items (drop count rest) (length new.text.items) here,
         u ∙ kept ∙ ap (λ (t : List ℕ). new.text.items ++ t) (drop-drop count blank front),
       );
     }
@@ -97,8 +110,10 @@ fed_whole new text bytes room n e =
       some = e.some;
       within = omega (arith, e.within, ap length cut, length-append (take room bytes) (drop room bytes));
       found = subst (λ (t : List ℕ). HasHeadText (text ++ t) new.text.items (drop n t)) cut
-          (subst (λ (t : List ℕ). HasHeadText t new.text.items (drop n (take room bytes ++ drop room bytes))) (append_assoc text (take room bytes) (drop room bytes))
-          (subst (λ (t : List ℕ). HasHeadText ((text ++ take room bytes) ++ drop room bytes) new.text.items t) (sym (drop-append-le n (take room bytes) (drop room bytes) e.within))
+          (subst (λ (t : List ℕ). HasHeadText t new.text.items (drop n (take room bytes ++ drop room bytes)))
+          (append_assoc text (take room bytes) (drop room bytes))
+          (subst (λ (t : List ℕ). HasHeadText ((text ++ take room bytes) ++ drop room bytes) new.text.items t)
+          (sym (drop-append-le n (take room bytes) (drop room bytes) e.within))
           (head_append (text ++ take room bytes) (drop room bytes) new.text.items (drop n (take room bytes)) e.found)));
     }
 
@@ -115,9 +130,11 @@ pub fed_long : (new : HeadBytes) (text bytes : List ℕ) (room : ℕ) → HoldsT
 fed_long new text bytes room h long limit =
     let front = text ++ take room bytes in
     let size : length front ≡ head_limit = omega (arith, length-append text (take room bytes), length-take-le room bytes long, limit) in
-    let all : text ++ bytes ≡ front ++ drop room bytes = ap (λ (t : List ℕ). text ++ t) (sym (take-append-drop room bytes)) ∙ sym (append_assoc text (take room bytes) (drop room bytes)) in
+    let all : text ++ bytes ≡ front ++ drop room bytes = ap (λ (t : List ℕ). text ++ t) (sym (take-append-drop room bytes))
+    ∙ sym (append_assoc text (take room bytes) (drop room bytes)) in
     let w : window (text ++ bytes) ≡ new.text.items =
-    ap window all ∙ ap unblank (take-append-le head_limit front (drop room bytes) (omega (arith, size))) ∙ short_window front (omega (arith, size)) ∙ h.behind in (
+    ap window all ∙ ap unblank (take-append-le head_limit front (drop room bytes) (omega (arith, size))) ∙ short_window front (omega (arith, size))
+    ∙ h.behind in (
       ap up_to_empty_line w ∙ h.none,
       omega (arith, length-append text bytes, long, limit),
     )

@@ -31,7 +31,8 @@ cut_some ([] ∷ rest) h = cut_some rest h
 cut_some ((b ∷ line) ∷ rest) h =
     elim (cases_Bool (is_empty_line (b ∷ line))) [
       | inl t ↦ rw t (omega (arith, length-append line (concat rest)))
-      | inr f ↦ let s : list_any is_empty_line rest ≡ true = rw f at h in rw f (omega (arith, length-append line (cut_at_empty_line rest).0, length-append line (concat rest), cut_some rest s))
+      | inr f ↦ let s : list_any is_empty_line rest ≡ true =
+          rw f at h in rw f (omega (arith, length-append line (cut_at_empty_line rest).0, length-append line (concat rest), cut_some rest s))
     ]
 
 -- where there is one, it isn't all of the text that stands before it
@@ -110,7 +111,8 @@ pub line_stays : (text more : List ℕ) (k : ℕ) → up_to_empty_line text ≡ 
 line_stays text more k h =
     let l = line_end text k h in
     let g = grows true text more l.0 in
-    let n : length (text ++ more) - length (part_in (text ++ more)).1 ≡ k = omega (arith, length-append text more, ap length g.1, length-append (part_in text).1 more, l.1) in
+    let n : length (text ++ more) - length (part_in (text ++ more)).1 ≡ k =
+    omega (arith, length-append text more, ap length g.1, length-append (part_in text).1 more, l.1) in
     rw g.0 (ap Some n)
 
 some_first : (text : List ℕ) (k : ℕ) → up_to_empty_line text ≡ Some k → (b : ℕ) × (rest : List ℕ) × (text ≡ b ∷ rest)

@@ -50,7 +50,9 @@ never_end rest more never later tail e = never (more ++ later) tail (sym (append
 pub bad_append : (text more : List ℕ) → IsBadChunk text → IsBadChunk (text ++ more)
 bad_append text more (bad_line at bytes behind never) = bad_line (at ++ more) bytes (behind_append text at bytes more behind) (never_line at more never)
 bad_append text more (bad_end at bytes chunk after rest behind line some fits follows never) =
-    bad_end (at ++ more) bytes chunk (after ++ more) (rest ++ more) (behind_append text at bytes more behind) (has_line_append at more after (length chunk) line) some fits
+    bad_end (at ++ more) bytes chunk (after ++ more) (rest ++ more) (behind_append text at bytes more behind)
+    (has_line_append at more after (length chunk) line) some fits
     (ap (λ (t : List ℕ). t ++ more) follows ∙ append_assoc chunk rest more) (never_end rest more never)
 bad_append text more (bad_trailer at bytes trailer behind line never) =
-    bad_trailer (at ++ more) bytes (trailer ++ more) (behind_append text at bytes more behind) (has_line_append at more trailer 0 line) (never_on trailer more never)
+    bad_trailer (at ++ more) bytes (trailer ++ more) (behind_append text at bytes more behind) (has_line_append at more trailer 0 line)
+    (never_on trailer more never)

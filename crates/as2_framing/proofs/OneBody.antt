@@ -70,7 +70,8 @@ pub place_once : (text at bt bytes other : List ℕ) → IsBehind text at bytes 
     → (at ≡ bt) × (bytes ≡ other)
 place_once text at bt bytes other x y ends stops =
     let same = chunks_once x.chunks y.chunks text at bt 0 x.all y.all (omega (arith, ap length x.joined, x.short)) (omega (arith, ap length y.joined, y.short))
-    (λ chunk after c few. ends chunk after c (omega (arith, few, ap length x.joined))) (λ chunk after c few. stops chunk after c (omega (arith, few, ap length y.joined))) in
+    (λ chunk after c few. ends chunk after c (omega (arith, few, ap length x.joined)))
+    (λ chunk after c few. stops chunk after c (omega (arith, few, ap length y.joined))) in
     (same.1, x.joined ∙ ap concat same.0 ∙ sym y.joined)
 
 -- ---- no further chunk
@@ -124,15 +125,25 @@ abbrev large : (text : List ℕ) → IsTooLarge text → Stands text
 large text l = record { at = l.at; bytes = l.bytes; behind = l.behind; last = last_large l.at l.after (length l.bytes) l.size l.line l.large }
 
 abbrev bad : (text : List ℕ) → IsBadChunk text → Stands text
-bad text (bad_line at bytes behind never) = record { at = at; bytes = bytes; behind = behind; last = last_without at (length bytes) (λ size after h. never [] size after (subst (λ (t : List ℕ). HasLine t size after) (sym (append-nil at)) h)) }
-bad text (bad_end at bytes chunk after rest behind line some fits follows never) = record { at = at; bytes = bytes; behind = behind; last = last_unended at chunk after rest (length bytes) line follows (never_there rest never) }
+bad text (bad_line at bytes behind never) =
+    record {
+      at = at;
+      bytes = bytes;
+      behind = behind;
+      last = last_without at (length bytes) (λ size after h. never [] size after (subst (λ (t : List ℕ). HasLine t size after) (sym (append-nil at)) h));
+    }
+bad text (bad_end at bytes chunk after rest behind line some fits follows never) =
+    record { at = at; bytes = bytes; behind = behind; last = last_unended at chunk after rest (length bytes) line follows (never_there rest never) }
 bad text (bad_trailer at bytes trailer behind line never) = record { at = at; bytes = bytes; behind = behind; last = last_zero at trailer (length bytes) line }
 
 abbrev undecided : (text : List ℕ) → IsOpenChunked text → Stands text
 undecided text (in_line at bytes behind none may) = record { at = at; bytes = bytes; behind = behind; last = last_without at (length bytes) none }
-undecided text (in_bytes at bytes size after behind line fits short) = record { at = at; bytes = bytes; behind = behind; last = last_short at after (length bytes) size line short }
-undecided text (in_end at bytes chunk after rest behind line some fits follows less) = record { at = at; bytes = bytes; behind = behind; last = last_unended at chunk after rest (length bytes) line follows (less_there rest less) }
-undecided text (in_trailer at bytes trailer behind line none may) = record { at = at; bytes = bytes; behind = behind; last = last_zero at trailer (length bytes) line }
+undecided text (in_bytes at bytes size after behind line fits short) =
+    record { at = at; bytes = bytes; behind = behind; last = last_short at after (length bytes) size line short }
+undecided text (in_end at bytes chunk after rest behind line some fits follows less) =
+    record { at = at; bytes = bytes; behind = behind; last = last_unended at chunk after rest (length bytes) line follows (less_there rest less) }
+undecided text (in_trailer at bytes trailer behind line none may) =
+    record { at = at; bytes = bytes; behind = behind; last = last_zero at trailer (length bytes) line }
 
 -- ---- one thing
 
@@ -236,19 +247,23 @@ bad_of_line text at bytes behind never (in_trailer bt other trailer stands line 
 bad_of_end : (text at bytes chunk after rest : List ℕ) (behind : IsBehind text at bytes) (line : HasLine at (length chunk) after) (some : 0 < length chunk)
     (fits : length bytes + length chunk ≤ 1048576) (follows : after ≡ chunk ++ rest) (never : NeverEndsLine rest) → IsOpenChunked text → ⊥
 bad_of_end text at bytes chunk after rest behind line some fits follows never (in_line bt other stands none may) =
-    let place = same text (bad text (bad_end at bytes chunk after rest behind line some fits follows never)) (undecided text (in_line bt other stands none may)) in
+    let place = same text (bad text (bad_end at bytes chunk after rest behind line some fits follows never))
+    (undecided text (in_line bt other stands none may)) in
     none (length chunk) after (subst (λ (t : List ℕ). HasLine t (length chunk) after) place.0 line)
 bad_of_end text at bytes chunk after rest behind line some fits follows never (in_bytes bt other size tail stands says few short) =
-    let place = same text (bad text (bad_end at bytes chunk after rest behind line some fits follows never)) (undecided text (in_bytes bt other size tail stands says few short)) in
+    let place = same text (bad text (bad_end at bytes chunk after rest behind line some fits follows never))
+    (undecided text (in_bytes bt other size tail stands says few short)) in
     let one = line_once bt after tail (length chunk) size (subst (λ (t : List ℕ). HasLine t (length chunk) after) place.0 line) says in
     omega (arith, short, one.0, ap length one.1, ap length follows, length-append chunk rest)
 bad_of_end text at bytes chunk after rest behind line some fits follows never (in_end bt other part tail more stands says any few goes less) =
-    let place = same text (bad text (bad_end at bytes chunk after rest behind line some fits follows never)) (undecided text (in_end bt other part tail more stands says any few goes less)) in
+    let place = same text (bad text (bad_end at bytes chunk after rest behind line some fits follows never))
+    (undecided text (in_end bt other part tail more stands says any few goes less)) in
     let one = line_once bt after tail (length chunk) (length part) (subst (λ (t : List ℕ). HasLine t (length chunk) after) place.0 line) says in
     let both = front_once chunk part rest more one.0 (sym follows ∙ one.1 ∙ goes) in
     not_less rest more never both.1 less
 bad_of_end text at bytes chunk after rest behind line some fits follows never (in_trailer bt other trailer stands says none may) =
-    let place = same text (bad text (bad_end at bytes chunk after rest behind line some fits follows never)) (undecided text (in_trailer bt other trailer stands says none may)) in
+    let place = same text (bad text (bad_end at bytes chunk after rest behind line some fits follows never))
+    (undecided text (in_trailer bt other trailer stands says none may)) in
     omega (arith, some, (line_once bt after trailer (length chunk) 0 (subst (λ (t : List ℕ). HasLine t (length chunk) after) place.0 line) says).0)
 
 bad_of_trailer : (text at bytes trailer : List ℕ) (behind : IsBehind text at bytes) (line : HasLine at 0 trailer) (never : NeverHasTrailer trailer)
@@ -260,7 +275,8 @@ bad_of_trailer text at bytes trailer behind line never (in_bytes bt other size t
     let place = same text (bad text (bad_trailer at bytes trailer behind line never)) (undecided text (in_bytes bt other size tail stands says few short)) in
     omega (arith, short, (zero_alone at bt trailer tail size place.0 line says).0)
 bad_of_trailer text at bytes trailer behind line never (in_end bt other part tail more stands says any few goes less) =
-    let place = same text (bad text (bad_trailer at bytes trailer behind line never)) (undecided text (in_end bt other part tail more stands says any few goes less)) in
+    let place = same text (bad text (bad_trailer at bytes trailer behind line never))
+    (undecided text (in_end bt other part tail more stands says any few goes less)) in
     omega (arith, any, (zero_alone at bt trailer tail (length part) place.0 line says).0)
 bad_of_trailer text at bytes trailer behind line never (in_trailer bt other last stands says none may) =
     let place = same text (bad text (bad_trailer at bytes trailer behind line never)) (undecided text (in_trailer bt other last stands says none may)) in
@@ -269,7 +285,8 @@ bad_of_trailer text at bytes trailer behind line never (in_trailer bt other last
 
 open_bad : (text : List ℕ) → IsOpenChunked text → IsBadChunk text → ⊥
 open_bad text o (bad_line at bytes behind never) = bad_of_line text at bytes behind never o
-open_bad text o (bad_end at bytes chunk after rest behind line some fits follows never) = bad_of_end text at bytes chunk after rest behind line some fits follows never o
+open_bad text o (bad_end at bytes chunk after rest behind line some fits follows never) =
+    bad_of_end text at bytes chunk after rest behind line some fits follows never o
 open_bad text o (bad_trailer at bytes trailer behind line never) = bad_of_trailer text at bytes trailer behind line never o
 
 pub never_open_fault : NeverOpenFault

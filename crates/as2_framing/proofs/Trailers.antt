@@ -79,8 +79,12 @@ pub trailer_ends : (came rest front : List ℕ) (m : ℕ) → (more : List ℕ) 
     → up_to_empty_line (came ++ take m front) ≡ Some (length came + m) → HasTrailer (came ++ rest) (drop m rest)
 trailer_ends came rest front m split within short end =
     let tail = drop m front ++ split.0 in
-    let whole : came ++ rest ≡ (came ++ take m front) ++ tail = ap (λ (t : List ℕ). came ++ t) (split.1 ∙ ap (λ (t : List ℕ). t ++ split.0) (sym (take-append-drop m front)) ∙ append_assoc (take m front) (drop m front) split.0) ∙ sym (append_assoc came (take m front) tail) in
+    let whole : came ++ rest ≡ (came ++ take m front)
+    ++ tail = ap (λ (t : List ℕ). came ++ t)
+    (split.1 ∙ ap (λ (t : List ℕ). t ++ split.0) (sym (take-append-drop m front)) ∙ append_assoc (take m front) (drop m front) split.0)
+    ∙ sym (append_assoc came (take m front) tail) in
     let grown = take_more 16384 (came ++ take m front) tail in
     let fits : length (came ++ take m front) ≤ 16384 = omega (arith, short, length-append came (take m front), length-take-le m front within) in
-    let same : take 16384 (came ++ rest) ≡ (came ++ take m front) ++ grown.0 = ap (take 16384) whole ∙ grown.1 ∙ ap (λ (t : List ℕ). t ++ grown.0) (take_all 16384 (came ++ take m front) fits) in
+    let same : take 16384 (came ++ rest) ≡ (came ++ take m front) ++ grown.0 = ap (take 16384) whole ∙ grown.1
+    ∙ ap (λ (t : List ℕ). t ++ grown.0) (take_all 16384 (came ++ take m front) fits) in
     (length came + m, ap up_to_empty_line same ∙ line_stays (came ++ take m front) grown.0 (length came + m) end, sym (drop-append-add came rest m))

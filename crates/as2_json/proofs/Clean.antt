@@ -95,4 +95,5 @@ mutual
   members_clean : (later : Bool) (ms : Members) → IsClean (members_text later ms)
   members_clean later no_members = (refl, tt)
   members_clean later (member k d ms) =
-      clean-append (comma_if later) _ (comma_clean later) (clean-append (quoted k) _ (quoted_clean k) (refl, clean-append (compact_text d) _ (value_clean d) (members_clean true ms)))
+      clean-append (comma_if later) _ (comma_clean later)
+      (clean-append (quoted k) _ (quoted_clean k) (refl, clean-append (compact_text d) _ (value_clean d) (members_clean true ms)))

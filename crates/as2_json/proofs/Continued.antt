@@ -26,4 +26,5 @@ continued s settled rows text made stands numbers told p chosen =
 -- the rows that are kept of all are those of what is outstanding
 pub kept_of_all : (s : State) (m : ℕ) (rows kept shown : List OutRow) → rows ≡ listed_rows None s → kept ≡ filter (is_outstanding m) rows → shown ≡ kept
     → shown ≡ map out_summary (outstanding_documents s m)
-kept_of_all s m rows kept shown all is same = same ∙ is ∙ ap (filter (is_outstanding m)) (all ∙ ap (map out_summary) (all_listed s.outbox)) ∙ kept_rows (is_outstanding m) s.outbox
+kept_of_all s m rows kept shown all is same = same ∙ is ∙ ap (filter (is_outstanding m)) (all ∙ ap (map out_summary) (all_listed s.outbox))
+    ∙ kept_rows (is_outstanding m) s.outbox

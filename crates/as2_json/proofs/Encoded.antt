@@ -50,5 +50,6 @@ mutual
   members_utf8 : (later : Bool) (ms : Members) → MembersHaveTexts ms → IsUtf8 (members_text later ms)
   members_utf8 later no_members h = IsUtf8-are_ascii (125 ∷ []) refl
   members_utf8 later (member k d ms) h =
-      let rest = IsUtf8-append (58 ∷ []) _ (IsUtf8-are_ascii _ refl) (IsUtf8-append (compact_text d) _ (IsUtf8-compact_text d h.1.0) (members_utf8 true ms h.1.1)) in
+      let rest = IsUtf8-append (58 ∷ []) _ (IsUtf8-are_ascii _ refl)
+      (IsUtf8-append (compact_text d) _ (IsUtf8-compact_text d h.1.0) (members_utf8 true ms h.1.1)) in
       IsUtf8-append (comma_if later) _ (comma later) (IsUtf8-append (quoted k) _ (IsUtf8-quoted k h.0) rest)

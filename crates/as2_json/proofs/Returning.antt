@@ -142,7 +142,10 @@ counts_back c h = back _ (record {
     number_of-decimal c.awaited h.awaited,
     number_of-decimal c.to_send h.to_send,
   );
-  numerals = (IsNumber-decimal _ h.in_error, (IsNumber-decimal _ h.in_retry, (IsNumber-decimal _ h.not_sent, (IsNumber-decimal _ h.awaited, (IsNumber-decimal _ h.to_send, tt)))));
+  numerals = (
+    IsNumber-decimal _ h.in_error,
+    (IsNumber-decimal _ h.in_retry, (IsNumber-decimal _ h.not_sent, (IsNumber-decimal _ h.awaited, (IsNumber-decimal _ h.to_send, tt)))),
+  );
   texts = (
     word _ refl,
     (
@@ -217,7 +220,25 @@ document_back d h = back _ (record {
     receipt_known d.evidence h.receipt,
     number_of-decimal d.tries h.tries,
   );
-  numerals = (tt, (tt, (due_numerals d.due h.due, (tt, (tt, (IsNumber-decimal _ h.bytes, (IsNumber-decimal _ h.number, (receipt_numerals d.evidence h.receipt, (tt, (tt, (IsNumber-decimal _ h.tries, tt)))))))))));
+  numerals = (
+    tt,
+    (
+      tt,
+      (
+        due_numerals d.due h.due,
+        (
+          tt,
+          (
+            tt,
+            (
+              IsNumber-decimal _ h.bytes,
+              (IsNumber-decimal _ h.number, (receipt_numerals d.evidence h.receipt, (tt, (tt, (IsNumber-decimal _ h.tries, tt))))),
+            ),
+          ),
+        ),
+      ),
+    ),
+  );
   texts = (
     word _ refl,
     (

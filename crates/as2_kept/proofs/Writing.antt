@@ -15,7 +15,10 @@ survives_of next old new it = record {
   shield = it.shield;
   crash = λ clean left may. elim (it.crash clean left may) [
     | inl before ↦ inl before
-    | inr more ↦ inr (record { was_open = more.was_open; stands = λ s rests. let to = more.stands s rests in record { state = to.state; is = to.is; keeps = to.keeps } })
+    | inr more ↦ inr (record {
+      was_open = more.was_open;
+      stands = λ s rests. let to = more.stands s rests in record { state = to.state; is = to.is; keeps = to.keeps };
+    })
   ];
 }
 
@@ -42,4 +45,5 @@ write_of next old new (Err e) it = record {
 -- seen from where the records are
 pub write_over : {A E : Type 0} (next : State → Option State) (inside outside new : Connected) (r : Result A E) → inside ≡ outside
     → WritesTables next inside new r → Writes {M = tables} next (tables_standing outside) (tables_standing new) r
-write_over next inside outside new r same it = subst (λ (c : Connected). Writes {M = tables} next (tables_standing c) (tables_standing new) r) same (write_of next inside new r it)
+write_over next inside outside new r same it =
+    subst (λ (c : Connected). Writes {M = tables} next (tables_standing c) (tables_standing new) r) same (write_of next inside new r it)

@@ -37,7 +37,12 @@ writes_ok next s t a takes = record {
       record {
         state = t;
         is = subst (λ v. next v ≡ Some t) (sym rests.same) it.is;
-        rests = record { same = λ i. t; knows = ap known_digests (it.version ∙ ap (λ (v : State). v.version) (sym rests.same)) ∙ rests.knows; counted = it.counted };
+        rests = record {
+          same = λ i. t;
+          knows = ap known_digests (it.version ∙ ap (λ (v : State). v.version) (sym rests.same))
+              ∙ rests.knows;
+          counted = it.counted;
+        };
       };
   failed = λ clean. tt;
   crash = stays_open s t _;

@@ -98,7 +98,8 @@ at_place : {X : Type 0} (number : X → ℕ) (n : ℕ) (f : X → X) (xs : List 
     → set xs i (f (get_or xs i d)) ≡ changed number n f xs
 unfolding IsDistinct
 at_place number n f [] i d h lt is = absurd (omega arith)
-at_place number n f (x ∷ xs) zero d h lt is = first_by f x (number x == n) xs (changed number n f xs) is (apart number n f xs (others number n (number x) xs is h.0))
+at_place number n f (x ∷ xs) zero d h lt is =
+    first_by f x (number x == n) xs (changed number n f xs) is (apart number n f xs (others number n (number x) xs is h.0))
 at_place number n f (x ∷ xs) (suc i) d h lt is =
     let rest : i < length xs = omega arith in
     later_by f x (number x == n) (set xs i (f (get_or xs i d))) (changed number n f xs)

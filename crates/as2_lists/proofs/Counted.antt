@@ -30,7 +30,8 @@ one_more n small h = record { least = omega (arith, h.least); most = omega arith
 
 numbers_more : {X : Type 0} (number : X → ℕ) (next : ℕ) (xs : List X) (x : X) → number x ≡ next → AreNumbers next (map number xs)
     → AreNumbers (next + 1) (map number (xs ++ x ∷ []))
-numbers_more number next xs x is h = subst (AreNumbers (next + 1)) (sym (map_last number xs x ∙ ap (λ k. map number xs ++ k ∷ []) is)) (numbers_push next (map number xs) h)
+numbers_more number next xs x is h =
+    subst (AreNumbers (next + 1)) (sym (map_last number xs x ∙ ap (λ k. map number xs ++ k ∷ []) is)) (numbers_push next (map number xs) h)
 
 pub received_counted : (s : State) (e : InEntry) → e.number ≡ s.next_in → s.next_in < end_of_numbers → IsCounted s → IsCounted (with_received s e)
 received_counted s e is small h = record {
@@ -70,8 +71,10 @@ outbox_counted s f kept h = record {
 
 pub one_received_counted : (s : State) (n : ℕ) (f : InEntry → InEntry) → ((e : InEntry) → (f e).number ≡ e.number) → IsCounted s
     → IsCounted (record s { inbox = map (λ e. if e.number == n then f e else e) s.inbox })
-one_received_counted s n f kept h = inbox_counted s (λ e. if e.number == n then f e else e) (λ e. either_kept (λ (x : InEntry). x.number) (e.number == n) (f e) e (kept e)) h
+one_received_counted s n f kept h =
+    inbox_counted s (λ e. if e.number == n then f e else e) (λ e. either_kept (λ (x : InEntry). x.number) (e.number == n) (f e) e (kept e)) h
 
 pub one_document_counted : (s : State) (n : ℕ) (f : OutEntry → OutEntry) → ((d : OutEntry) → (f d).number ≡ d.number) → IsCounted s
     → IsCounted (record s { outbox = map (λ d. if d.number == n then f d else d) s.outbox })
-one_document_counted s n f kept h = outbox_counted s (λ d. if d.number == n then f d else d) (λ d. either_kept (λ (x : OutEntry). x.number) (d.number == n) (f d) d (kept d)) h
+one_document_counted s n f kept h =
+    outbox_counted s (λ d. if d.number == n then f d else d) (λ d. either_kept (λ (x : OutEntry). x.number) (d.number == n) (f d) d (kept d)) h

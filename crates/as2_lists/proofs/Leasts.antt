@@ -28,7 +28,8 @@ pub first_is_least : {X : Type 0} (number : X → ℕ) (test : X → Bool) (xs :
 unfolding IsDistinct
 first_is_least number test [] h = refl
 first_is_least number test (x ∷ xs) h =
-    least_of number x (test x) (filter test xs) (find test xs) (λ y found. all_found (λ k. nat_lt k (number x) ≡ false) number test xs y h.0 found) (first_is_least number test xs h.1)
+    least_of number x (test x) (filter test xs) (find test xs) (λ y found. all_found (λ k. nat_lt k (number x) ≡ false) number test xs y h.0 found)
+    (first_is_least number test xs h.1)
 
 pub least_due_receipt : (s : State) (m : ℕ) → IsCounted s → option_map (λ e. e.number) (find (is_due_receipt m) s.inbox) ≡ least (due_receipts s m)
 least_due_receipt s m counted = sym (first_is_least (λ (e : InEntry). e.number) (is_due_receipt m) s.inbox counted.receipts.1.in_order)

@@ -28,7 +28,8 @@ use Rattle.as2_lists.proofs.Counted.{received_counted, document_counted, one_rec
 -- the write takes what they stood for to this state, which is counted where that was
 pub writes_from : {A : Type 0} (next : State → Option State) (s before t : State) (a : A) → before ≡ s → (IsCounted before → Takes next before t)
     → Writes {M = memory} {A = A} {E = StoreFault} next (lists_standing s) (lists_standing t) (Ok a)
-writes_from {A = A} next s before t a is takes = subst (λ (z : State). Writes {M = memory} {A = A} {E = StoreFault} next (lists_standing z) (lists_standing t) (Ok a)) is (writes_ok next before t a takes)
+writes_from {A = A} next s before t a is takes =
+    subst (λ (z : State). Writes {M = memory} {A = A} {E = StoreFault} next (lists_standing z) (lists_standing t) (Ok a)) is (writes_ok next before t a takes)
 
 -- ---- an entry more
 
@@ -41,19 +42,21 @@ if_equal k n t is = by (k == n) (grind (arith, nat_tests))
 
 pub takes_received : (s : State) (e : InEntry) (items : List InEntry) → e.number ≡ s.next_in → s.next_in < end_of_numbers → items ≡ s.inbox ++ e ∷ []
     → IsCounted s → Takes (state_with e) s (record s { inbox = items; next_in = s.next_in + 1 })
-takes_received s e items is small new counted = subst (λ (l : List InEntry). Takes (state_with e) s (record s { inbox = l; next_in = s.next_in + 1 })) (sym new) (record {
-  is = if_equal e.number s.next_in (with_received s e) is;
-  counted = received_counted s e is small counted;
-  version = refl;
-})
+takes_received s e items is small new counted =
+    subst (λ (l : List InEntry). Takes (state_with e) s (record s { inbox = l; next_in = s.next_in + 1 })) (sym new) (record {
+      is = if_equal e.number s.next_in (with_received s e) is;
+      counted = received_counted s e is small counted;
+      version = refl;
+    })
 
 pub takes_document : (s : State) (d : OutEntry) (items : List OutEntry) → d.number ≡ s.next_out → s.next_out < end_of_numbers → items ≡ s.outbox ++ d ∷ []
     → IsCounted s → Takes (added_document d) s (record s { outbox = items; next_out = s.next_out + 1 })
-takes_document s d items is small new counted = subst (λ (l : List OutEntry). Takes (added_document d) s (record s { outbox = l; next_out = s.next_out + 1 })) (sym new) (record {
-  is = if_equal d.number s.next_out (with_document s d) is;
-  counted = document_counted s d is small counted;
-  version = refl;
-})
+takes_document s d items is small new counted =
+    subst (λ (l : List OutEntry). Takes (added_document d) s (record s { outbox = l; next_out = s.next_out + 1 })) (sym new) (record {
+      is = if_equal d.number s.next_out (with_document s d) is;
+      counted = document_counted s d is small counted;
+      version = refl;
+    })
 
 -- ---- an entry that is changed
 
@@ -95,11 +98,12 @@ pub takes_settled : (s : State) (n : ℕ) (detail : Detail) (evidence : Evidence
     → not (option_map_or is_settled (document s n) true) ≡ true → is_by_receipt detail ≡ true
     → items ≡ map (λ d. if d.number == n then settled_as detail evidence d else d) s.outbox → IsCounted s
     → Takes (settled_in n detail evidence) s (record s { outbox = items })
-takes_settled s n detail evidence items open_still by_receipt new counted = subst (λ (l : List OutEntry). Takes (settled_in n detail evidence) s (record s { outbox = l })) (sym new) (record {
-  is = open_one (option_map_or is_settled (document s n) true) (is_by_receipt detail) (change_document s n (settled_as detail evidence)) open_still by_receipt;
-  counted = one_document_counted s n (settled_as detail evidence) (λ d. refl) counted;
-  version = refl;
-})
+takes_settled s n detail evidence items open_still by_receipt new counted =
+    subst (λ (l : List OutEntry). Takes (settled_in n detail evidence) s (record s { outbox = l })) (sym new) (record {
+      is = open_one (option_map_or is_settled (document s n) true) (is_by_receipt detail) (change_document s n (settled_as detail evidence)) open_still by_receipt;
+      counted = one_document_counted s n (settled_as detail evidence) (λ d. refl) counted;
+      version = refl;
+    })
 
 -- ---- time passes
 

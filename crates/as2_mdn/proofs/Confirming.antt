@@ -42,7 +42,8 @@ confirmed known receipt content = (there, back)
   where
     there : verdict_of known receipt content ≡ Processed → Confirms known receipt content
     there h =
-        let lines = no_other_line (says_processed receipt.disposition) (has_error receipt.disposition) (has_modifier receipt.disposition) (mic_compared known receipt.mic content) h in
+        let lines = no_other_line (says_processed receipt.disposition) (has_error receipt.disposition) (has_modifier receipt.disposition)
+        (mic_compared known receipt.mic content) h in
         let given = given_so known receipt.mic content lines.2 in
         record { field = given.0; processed = lines.0; unmodified = nothing_there (modifier_of receipt.disposition) lines.1; given = given.1; same = given.2 }
 

@@ -19,6 +19,7 @@ found_none byte (b ∷ rest) h =
       | inl here ↦
           absurd (some_or_none ([], rest) (sym (ap (λ t. cond t (Some ([], rest)) (with_before (b ∷ []) (cut_at byte rest))) here) ∙ h))
       | inr other ↦
-          let later : with_before (b ∷ []) (cut_at byte rest) ≡ None = sym (ap (λ t. cond t (Some ([], rest)) (with_before (b ∷ []) (cut_at byte rest))) other) ∙ h in
+          let later : with_before (b ∷ []) (cut_at byte rest) ≡ None =
+          sym (ap (λ t. cond t (Some ([], rest)) (with_before (b ∷ []) (cut_at byte rest))) other) ∙ h in
           lacks_front byte b rest other (found_none byte rest (before_none b (cut_at byte rest) later))
     ]

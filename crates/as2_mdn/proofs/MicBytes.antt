@@ -46,12 +46,14 @@ md5_bytes hash (suc n) = below_append 256 (md5.digest_bytes hash n) (to_le_bytes
 sha1_bytes : (hash : List ℕ) (n : ℕ) → AreBytes (sha1.digest_bytes hash n)
 unfolding sha1.digest_bytes
 sha1_bytes hash zero = tt
-sha1_bytes hash (suc n) = below_append 256 (sha1.digest_bytes hash n) (to_be_bytes w32 (slice_index hash n)) (sha1_bytes hash n) (high_first (slice_index hash n))
+sha1_bytes hash (suc n) =
+    below_append 256 (sha1.digest_bytes hash n) (to_be_bytes w32 (slice_index hash n)) (sha1_bytes hash n) (high_first (slice_index hash n))
 
 sha256_bytes : (hash : List ℕ) (n : ℕ) → AreBytes (sha256.digest_bytes hash n)
 unfolding sha256.digest_bytes
 sha256_bytes hash zero = tt
-sha256_bytes hash (suc n) = below_append 256 (sha256.digest_bytes hash n) (to_be_bytes w32 (slice_index hash n)) (sha256_bytes hash n) (high_first (slice_index hash n))
+sha256_bytes hash (suc n) =
+    below_append 256 (sha256.digest_bytes hash n) (to_be_bytes w32 (slice_index hash n)) (sha256_bytes hash n) (high_first (slice_index hash n))
 
 digest_is_bytes : (alg : Alg) (content : List ℕ) → AreBytes (digest alg content)
 unfolding md5.md5 sha1.sha1 sha256.sha256
@@ -83,7 +85,8 @@ symbols t (a ∷ []) h m = at_places t (a / 4 ∷ a % 4 * 16 ∷ []) h (omega (a
 symbols t (a ∷ b ∷ []) h m =
     at_places t (a / 4 ∷ (a % 4 * 16 + b / 16) ∷ b % 16 * 4 ∷ []) h (omega (arith, m.0), (omega (arith, m.1.0), (omega arith, tt)))
 symbols t (a ∷ b ∷ c ∷ rest) h m =
-    let group = at_places t (a / 4 ∷ (a % 4 * 16 + b / 16) ∷ (b % 16 * 4 + c / 64) ∷ c % 64 ∷ []) h (omega (arith, m.0), (omega (arith, m.1.0), (omega (arith, m.1.1.0), (omega arith, tt)))) in
+    let group = at_places t (a / 4 ∷ (a % 4 * 16 + b / 16) ∷ (b % 16 * 4 + c / 64) ∷ c % 64 ∷ []) h
+    (omega (arith, m.0), (omega (arith, m.1.0), (omega (arith, m.1.1.0), (omega arith, tt)))) in
     text_append (encode_group t a b c) (encode_symbols t rest) group (symbols t rest h m.1.1.1)
 
 fills : (n pad : ℕ) → IsTrue (is_mic_byte pad) → IsOfMicBytes (replicate n pad)
@@ -97,7 +100,8 @@ at_place (x ∷ t) h (suc i) lt = at_place t (and_parts (is_mic_byte x) (list_al
 
 encoded_of_mic_bytes : (m : List ℕ) → AreBytes m → IsOfMicBytes (base64_text m)
 encoded_of_mic_bytes m h =
-    text_append (encode_symbols standard.encode_table m) (replicate (padding_len (length m)) 61) (symbols standard.encode_table m (at_place standard.encode_table refl) h) (fills (padding_len (length m)) 61 refl)
+    text_append (encode_symbols standard.encode_table m) (replicate (padding_len (length m)) 61)
+    (symbols standard.encode_table m (at_place standard.encode_table refl) h) (fills (padding_len (length m)) 61 refl)
 
 -- every byte of a MIC is a letter, a digit, `+`, `/` or `=`
 pub mic_has_mic_bytes : (alg : Alg) (content : List ℕ) → IsOfMicBytes (mic alg content)

@@ -99,12 +99,15 @@ apart byte word u l = record { uncased = u; lacking = l }
 
 pub action_has_no_slash : (text : List ℕ) → IsTrue (is_action_mode text) → Lacks slash text
 action_has_no_slash text h =
-    trimmed_has_none slash text slash_stays (either_has_none slash (trimmed_text text) (codes "manual-action") (codes "automatic-action") (apart _ _ refl refl) (apart _ _ refl refl) h)
+    trimmed_has_none slash text slash_stays
+    (either_has_none slash (trimmed_text text) (codes "manual-action") (codes "automatic-action") (apart _ _ refl refl) (apart _ _ refl refl) h)
 
 pub action_has_no_semicolon : (text : List ℕ) → IsTrue (is_action_mode text) → Lacks semicolon text
 action_has_no_semicolon text h =
-    trimmed_has_none semicolon text semicolon_stays (either_has_none semicolon (trimmed_text text) (codes "manual-action") (codes "automatic-action") (apart _ _ refl refl) (apart _ _ refl refl) h)
+    trimmed_has_none semicolon text semicolon_stays
+    (either_has_none semicolon (trimmed_text text) (codes "manual-action") (codes "automatic-action") (apart _ _ refl refl) (apart _ _ refl refl) h)
 
 pub sending_has_no_semicolon : (text : List ℕ) → IsTrue (is_sending_mode text) → Lacks semicolon text
 sending_has_no_semicolon text h =
-    trimmed_has_none semicolon text semicolon_stays (either_has_none semicolon (trimmed_text text) (codes "MDN-sent-manually") (codes "MDN-sent-automatically") (apart _ _ refl refl) (apart _ _ refl refl) h)
+    trimmed_has_none semicolon text semicolon_stays
+    (either_has_none semicolon (trimmed_text text) (codes "MDN-sent-manually") (codes "MDN-sent-automatically") (apart _ _ refl refl) (apart _ _ refl refl) h)

@@ -35,10 +35,13 @@ use Rattle.as2_mdn.proofs.WrittenBytes.{identifier_solid, value_trimmed, lacks_o
 -- ---- the head of the second part
 
 type_fields : fields (crlf type_line) ≡ (codes "Content-Type", codes "message/disposition-notification") ∷ []
-type_fields = field_line (codes "Content-Type") (codes " message/disposition-notification") [] (record { some = λ e. absurd cc; named = refl; whole = refl }) refl
+type_fields = field_line (codes "Content-Type") (codes " message/disposition-notification") []
+    (record { some = λ e. absurd cc; named = refl; whole = refl }) refl
 
-notification_type : IsMediaType (codes "message/disposition-notification") (record { type_name = codes "message"; subtype = codes "disposition-notification"; parameters = [] })
-notification_type = media_found.found_by (codes "message/disposition-notification") (Ok (record { type_name = codes "message"; subtype = codes "disposition-notification"; parameters = [] })) refl
+notification_type : IsMediaType (codes "message/disposition-notification")
+    (record { type_name = codes "message"; subtype = codes "disposition-notification"; parameters = [] })
+notification_type = media_found.found_by (codes "message/disposition-notification")
+    (Ok (record { type_name = codes "message"; subtype = codes "disposition-notification"; parameters = [] })) refl
 
 pub notification_head : IsNotificationHead (crlf type_line)
 notification_head = record {
@@ -77,7 +80,9 @@ names_field name raw some bytes whole = record { some = some; named = bytes; who
 
 mic_fields_are : (mic : Option ReceiptMic) → HaveNoFeed (mic_texts mic) → fields (joined (mic_texts mic)) ≡ mic_fields mic
 mic_fields_are None f = refl
-mic_fields_are (Some mic) f = field_line (codes "Received-content-MIC") (32 ∷ mic_with_digest mic) [] (names_field (codes "Received-content-MIC") (32 ∷ mic_with_digest mic) (λ e. absurd cc) refl f.0) refl
+mic_fields_are (Some mic) f =
+    field_line (codes "Received-content-MIC") (32 ∷ mic_with_digest mic) []
+    (names_field (codes "Received-content-MIC") (32 ∷ mic_with_digest mic) (λ e. absurd cc) refl f.0) refl
 
 mic_free : (mic : Option ReceiptMic) → begins_with_blank (joined (mic_texts mic)) ≡ false
 mic_free None = refl
@@ -166,7 +171,11 @@ mic_given : (out : ReceiptOut) (mic : Option ReceiptMic) → HasMicText mic → 
     → IsMic (field_values (codes "received-content-mic") (fields_with out (mic_fields mic))) (mic_in_report mic)
 mic_given out None h b = refl
 mic_given out (Some mic) h b =
-    inl ((mic.text, alg_name mic.digest), subst (λ (x : List ℕ). IsMicField x (mic.text, alg_name mic.digest)) (sym (mic_read_back mic h b)) (mic_is mic h b), refl)
+    inl (
+      (mic.text, alg_name mic.digest),
+      subst (λ (x : List ℕ). IsMicField x (mic.text, alg_name mic.digest)) (sym (mic_read_back mic h b)) (mic_is mic h b),
+      refl,
+    )
 
 -- ---- the content
 
@@ -176,20 +185,23 @@ one_id out None = refl
 one_id out (Some mic) = refl
 
 one_disposition : (out : ReceiptOut) (mic : Option ReceiptMic)
-    → field_values (codes "disposition") (fields_with out (mic_fields mic)) ≡ raw_value (codes " automatic-action/MDN-sent-automatically; " ++ outcome_text out.outcome) ∷ []
+    → field_values (codes "disposition") (fields_with out (mic_fields mic)) ≡ raw_value
+    (codes " automatic-action/MDN-sent-automatically; " ++ outcome_text out.outcome) ∷ []
 one_disposition out None = refl
 one_disposition out (Some mic) = refl
 
 pub notification_content : (out : ReceiptOut) (mic : Option ReceiptMic) → IsIdentifier out.original_id → HasMicText mic → HasMicBytes mic
     → ContentFeedless out mic
-    → IsNotification (joined (field_texts out (mic_texts mic))) (record { original_id = out.original_id; disposition = disposition_of out.outcome; mic = mic_in_report mic })
+    → IsNotification (joined (field_texts out (mic_texts mic)))
+    (record { original_id = out.original_id; disposition = disposition_of out.outcome; mic = mic_in_report mic })
 notification_content out mic x h b f =
     let content = joined (field_texts out (mic_texts mic)) in
     let are : fields content ≡ fields_with out (mic_fields mic) = fields_are out mic f in
     record {
       content_fields = fields content;
       whole = fields_found content;
-      one_id = ap (field_values (codes "original-message-id")) are ∙ one_id out mic ∙ ap (λ (id : List ℕ). id ∷ []) (value_trimmed out.original_id (identifier_solid out.original_id x));
+      one_id = ap (field_values (codes "original-message-id")) are ∙ one_id out mic
+          ∙ ap (λ (id : List ℕ). id ∷ []) (value_trimmed out.original_id (identifier_solid out.original_id x));
       is_id = x;
       disposition_text = raw_value (codes " automatic-action/MDN-sent-automatically; " ++ outcome_text out.outcome);
       one_disposition = ap (field_values (codes "disposition")) are ∙ one_disposition out mic;

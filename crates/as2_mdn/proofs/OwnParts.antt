@@ -67,7 +67,8 @@ boundary_joint out = both (leaf (codes "as2-mdn-")) (leaf (decimal out.number))
 
 abbrev explanation_joint : ReceiptOut → Joint
 explanation_joint out =
-    both (both (both (both (both (leaf (codes "Content-Type: text/plain\r\n")) (leaf (codes "\r\n"))) (leaf (codes "Receipt "))) (leaf (decimal out.number))) (leaf (codes " for the message named below.\r\n")))
+    both (both (both (both (both (leaf (codes "Content-Type: text/plain\r\n")) (leaf (codes "\r\n"))) (leaf (codes "Receipt ")))
+    (leaf (decimal out.number))) (leaf (codes " for the message named below.\r\n")))
     (line_joint (codes "Outcome: ") (leaf (outcome_text out.outcome)))
 
 abbrev notification_joint : ReceiptOut → Joint → Joint
@@ -81,7 +82,8 @@ notification_joint out more =
 
 abbrev report_joint : ReceiptOut → Joint → Joint
 report_joint out more =
-    both (both (both (both (both (both (line_joint (codes "--") (boundary_joint out)) (explanation_joint out)) (line_joint (codes "\r\n--") (boundary_joint out)))
+    both (both (both (both (both (both (line_joint (codes "--") (boundary_joint out)) (explanation_joint out))
+    (line_joint (codes "\r\n--") (boundary_joint out)))
     (notification_joint out more)) (leaf (codes "\r\n--"))) (boundary_joint out)) (leaf (codes "--\r\n"))
 
 abbrev mic_joint : ReceiptMic → Joint
@@ -146,16 +148,20 @@ notification_feedless out f = (refl, (refl, (refl, (f.from, (f.id, (f.outcome, f
 texts_feedless : (out : ReceiptOut) → Feedless out → HaveNoFeed (texts_with out (mic_texts out.mic))
 texts_feedless out f =
     let end : HaveNoFeed (closing out.number ∷ []) = (no_feed_append (decimal out.number) (codes "--") f.digits refl, tt) in
-    let second : HaveNoFeed (second_texts out (mic_texts out.mic)) = have_append (notification_texts out (mic_texts out.mic)) ([] ∷ []) (notification_feedless out f) (refl, tt) in
-    let rest : HaveNoFeed (mark out.number ∷ (second_texts out (mic_texts out.mic) ++ closing out.number ∷ [])) = (f.digits, have_append (second_texts out (mic_texts out.mic)) (closing out.number ∷ []) second end) in
+    let second : HaveNoFeed (second_texts out (mic_texts out.mic)) =
+    have_append (notification_texts out (mic_texts out.mic)) ([] ∷ []) (notification_feedless out f) (refl, tt) in
+    let rest : HaveNoFeed (mark out.number ∷ (second_texts out (mic_texts out.mic) ++ closing out.number ∷ [])) =
+    (f.digits, have_append (second_texts out (mic_texts out.mic)) (closing out.number ∷ []) second end) in
     (f.digits, have_append (first_texts out) (mark out.number ∷ (second_texts out (mic_texts out.mic) ++ closing out.number ∷ [])) (first_feedless out f) rest)
 
 lines_are : (out : ReceiptOut) → Feedless out → lines (receipt_text out)
-    ≡ [] ++ crlf (mark out.number) ∷ (map crlf (first_texts out) ++ crlf (mark out.number) ∷ (map crlf (second_texts out (mic_texts out.mic)) ++ crlf (closing out.number) ∷ []))
+    ≡ [] ++ crlf (mark out.number) ∷
+    (map crlf (first_texts out) ++ crlf (mark out.number) ∷ (map crlf (second_texts out (mic_texts out.mic)) ++ crlf (closing out.number) ∷ []))
 lines_are out f =
     ap lines (text_is out)
     ∙ lines_of_joined (texts_with out (mic_texts out.mic)) (texts_feedless out f)
-    ∙ ap (λ (x : List (List ℕ)). crlf (mark out.number) ∷ (map crlf (first_texts out) ++ crlf (mark out.number) ∷ x)) (map-append crlf (second_texts out (mic_texts out.mic)) (closing out.number ∷ []))
+    ∙ ap (λ (x : List (List ℕ)). crlf (mark out.number) ∷ (map crlf (first_texts out) ++ crlf (mark out.number) ∷ x))
+    (map-append crlf (second_texts out (mic_texts out.mic)) (closing out.number ∷ []))
 
 -- ---- its parts
 

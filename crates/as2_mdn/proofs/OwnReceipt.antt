@@ -42,8 +42,11 @@ name_no_feed Sha256 = refl
 
 mic_no_feed : (mic : Option ReceiptMic) → HasMicBytes mic → HaveNoFeed (mic_texts mic)
 mic_no_feed None h = tt
-mic_no_feed (Some mic) h =
-    (no_feed_append (mic.text ++ 44 ∷ 32 ∷ []) (alg_name mic.digest) (no_feed_append mic.text (44 ∷ 32 ∷ []) (no_feed_of is_mic_byte mic.text refl h) refl) (name_no_feed mic.digest), tt)
+mic_no_feed (Some mic) h = (
+  no_feed_append (mic.text ++ 44 ∷ 32 ∷ []) (alg_name mic.digest)
+      (no_feed_append mic.text (44 ∷ 32 ∷ []) (no_feed_of is_mic_byte mic.text refl h) refl) (name_no_feed mic.digest),
+  tt,
+)
 
 feedless : (out : ReceiptOut) → IsOut out → HasMicBytes out.mic → Feedless out
 feedless out x b = record {
@@ -73,7 +76,9 @@ own out x b =
 -- the media type that is spelled is that one
 media_is : (out : ReceiptOut) (media : Media) → IsOut out → IsMediaType (content_type_text out.number) media → spelled_media out.number ≡ media
 media_is out media x m =
-    let same : Ok (spelled_media out.number) ≡ Ok media = sym (media_types.again (content_type_text out.number) (spelled_media out.number) (typed_as out.number x.number)) ∙ media_types.again (content_type_text out.number) media m in
+    let same : Ok (spelled_media out.number) ≡ Ok media =
+    sym (media_types.again (content_type_text out.number) (spelled_media out.number) (typed_as out.number x.number))
+    ∙ media_types.again (content_type_text out.number) media m in
     cc same
 
 pub read : ReportsAreRead
@@ -84,5 +89,6 @@ its_report out text same x = subst (IsItsReport out) (sym same) (read out x)
 
 pub of_one : ReportsAreOfOne
 of_one out media receipt x b m r =
-    let same : Ok receipt ≡ Ok (receipt_of out) = sym (again media (receipt_text out) receipt r) ∙ again media (receipt_text out) (receipt_of out) (read out x b media m) in
+    let same : Ok receipt ≡ Ok (receipt_of out) = sym (again media (receipt_text out) receipt r)
+    ∙ again media (receipt_text out) (receipt_of out) (read out x b media m) in
     cc same

@@ -97,7 +97,14 @@ boundary_given n small = record {
   whole = refl;
   token = refl;
   named = behind_space (codes "boundary");
-  spells = inr (record { units = map (λ (b : ℕ). qtext b) (boundary_text n); whole = as_units (boundary_text n); each = are_units (boundary_text n) (decimal_plain n small) }, refl);
+  spells = inr (
+    record {
+      units = map (λ (b : ℕ). qtext b) (boundary_text n);
+      whole = as_units (boundary_text n);
+      each = are_units (boundary_text n) (decimal_plain n small);
+    },
+    refl,
+  );
   given = unpadded (codes "\"" ++ boundary_text n ++ codes "\"");
 }
 
@@ -105,7 +112,8 @@ pub typed_as : (n : ℕ) → n < 2 ^ 64 → IsMediaType (content_type_text n) (s
 typed_as n small = record {
   essence = codes "multipart/report";
   texts = codes " report-type=disposition-notification" ∷ (codes " boundary=\"" ++ boundary_text n ++ codes "\"") ∷ [];
-  whole = ap (λ (x : List ℕ). codes "multipart/report; report-type=disposition-notification;" ++ x) (sym (append-nil (codes " boundary=\"" ++ boundary_text n ++ codes "\"")));
+  whole = ap (λ (x : List ℕ). codes "multipart/report; report-type=disposition-notification;" ++ x)
+      (sym (append-nil (codes " boundary=\"" ++ boundary_text n ++ codes "\"")));
   is = unpadded (codes "multipart/report");
   type_token = refl;
   subtype_token = refl;

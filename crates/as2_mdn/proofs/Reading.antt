@@ -41,7 +41,13 @@ action_cut value d x = record { whole = refl; first = action_has_no_slash x.acti
 
 pub again : (value : List ℕ) (d : List ℕ × List ℕ) → IsDisposition value d → disposition_reading value ≡ Ok d
 again value d x =
-    rw (cut_some semicolon value (x.action ++ slash ∷ x.sending) x.typed (mode_cut value d x), cut_some slash (x.action ++ slash ∷ x.sending) x.action x.sending (action_cut value d x), x.is_action, x.is_sending, typed_again x.typed d x.is_typed)
+    rw (
+      cut_some semicolon value (x.action ++ slash ∷ x.sending) x.typed (mode_cut value d x),
+      cut_some slash (x.action ++ slash ∷ x.sending) x.action x.sending (action_cut value d x),
+      x.is_action,
+      x.is_sending,
+      typed_again x.typed d x.is_typed,
+    )
     (type_again d x.has_type)
 
 -- ---- what is read stands in the value
@@ -59,7 +65,8 @@ type_found d found h =
           absurd cc
       | inr other ↦
           let yes : Ok found ≡ Ok d = sym (ap (λ t. cond t (Err fault.NoType) (Ok found)) other) ∙ h in
-          let some : type_in_disposition found ≡ [] → ⊥ = λ e. let zero : (length (type_in_disposition found) == 0) ≡ true = ap (λ (x : List ℕ). length x == 0) e in absurd cc in
+          let some : type_in_disposition found ≡ []
+          → ⊥ = λ e. let zero : (length (type_in_disposition found) == 0) ≡ true = ap (λ (x : List ℕ). length x == 0) e in absurd cc in
           (cc, some)
     ]
 
@@ -68,7 +75,8 @@ with_mode_found : (value mode typed : List ℕ) (d p : List ℕ × List ℕ) →
 with_mode_found value mode typed d p whole cut h =
     elim (cases_Bool (is_action_mode p.0 && is_sending_mode p.1)) [
       | inl good ↦
-          let on : with_type (type_and_modifier typed (cut_at slash typed)) ≡ Ok d = sym (ap (λ t. cond t (with_type (type_and_modifier typed (cut_at slash typed))) (Err fault.BadMode)) good) ∙ h in
+          let on : with_type (type_and_modifier typed (cut_at slash typed)) ≡ Ok d =
+          sym (ap (λ t. cond t (with_type (type_and_modifier typed (cut_at slash typed))) (Err fault.BadMode)) good) ∙ h in
           let t = type_found d (type_and_modifier typed (cut_at slash typed)) on in
           let words = and_parts (is_action_mode p.0) (is_sending_mode p.1) good in
           subst (IsDisposition value) t.0 (record {

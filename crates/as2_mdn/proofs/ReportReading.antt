@@ -194,13 +194,22 @@ unencoded_found (first ∷ second ∷ others) h = absurd cc
 
 content_again : (content : List ℕ) (receipt : ReceiptRead) → IsNotification content receipt → content_reading content ≡ Ok receipt
 content_again content receipt n =
-    rw (fields_only content n.content_fields n.whole, n.one_id, n.one_disposition, mic_tells _ receipt.mic n.is_mic, is_identifier_of receipt.original_id n.is_id, disposition_laws.again n.disposition_text receipt.disposition n.is_disposition) refl
+    rw (
+      fields_only content n.content_fields n.whole,
+      n.one_id,
+      n.one_disposition,
+      mic_tells _ receipt.mic n.is_mic,
+      is_identifier_of receipt.original_id n.is_id,
+      disposition_laws.again n.disposition_text receipt.disposition n.is_disposition,
+    ) refl
 
 part_again : (part : PartText) (receipt : ReceiptRead) → IsNotificationHead part.0 → IsNotification part.1 receipt → part_reading part ≡ Ok receipt
 part_again part receipt h n =
     let same : fields part.0 ≡ h.head_fields = fields_only part.0 h.head_fields h.whole in
-    let typed : is_type_of_notification (once_in part.0 (codes "content-type")) ≡ true = ap (λ (fs : List FieldText). is_type_of_notification (once (field_values (codes "content-type") fs))) same ∙ typed_again _ h.typed in
-    let plain : leaves_content (once_in part.0 (codes "content-transfer-encoding")) ≡ true = ap (λ (fs : List FieldText). leaves_content (once (field_values (codes "content-transfer-encoding") fs))) same ∙ unencoded_again _ h.unencoded in
+    let typed : is_type_of_notification (once_in part.0 (codes "content-type")) ≡ true =
+    ap (λ (fs : List FieldText). is_type_of_notification (once (field_values (codes "content-type") fs))) same ∙ typed_again _ h.typed in
+    let plain : leaves_content (once_in part.0 (codes "content-transfer-encoding")) ≡ true =
+    ap (λ (fs : List FieldText). leaves_content (once (field_values (codes "content-transfer-encoding") fs))) same ∙ unencoded_again _ h.unencoded in
     rw (typed, plain) (content_again part.1 receipt n)
 
 pub again : (media : Media) (body : List ℕ) (receipt : ReceiptRead) → IsReport media body receipt → receipt_reading media body ≡ Ok receipt
@@ -252,7 +261,8 @@ receipt_said id disposition mic receipt h =
 
 content_found : (content : List ℕ) (receipt : ReceiptRead) → content_reading content ≡ Ok receipt → IsNotification content receipt
 content_found content receipt h =
-    let s = receipt_said (once_in content (codes "original-message-id")) (once_in content (codes "disposition")) (mic_once (once_in content (codes "received-content-mic"))) receipt h in
+    let s = receipt_said (once_in content (codes "original-message-id")) (once_in content (codes "disposition"))
+    (mic_once (once_in content (codes "received-content-mic"))) receipt h in
     record {
       content_fields = fields content;
       whole = fields_found content;
@@ -261,7 +271,8 @@ content_found content receipt h =
       disposition_text = s.text;
       one_disposition = one_value _ s.text s.one_disposition;
       is_disposition = disposition_laws.found_by s.text (Ok receipt.disposition) (sym s.read);
-      is_mic = subst (IsMic (field_values (codes "received-content-mic") (fields content))) (sym s.mic_is) (mic_told (field_values (codes "received-content-mic") (fields content)));
+      is_mic = subst (IsMic (field_values (codes "received-content-mic") (fields content))) (sym s.mic_is)
+          (mic_told (field_values (codes "received-content-mic") (fields content)));
     }
 
 record IsToldBy (part : PartText) (receipt : ReceiptRead) : Type 0 where

@@ -99,7 +99,8 @@ pub no_marks : (boundary : List ℕ) (texts : List (List ℕ)) → list_all (λ 
 no_marks boundary [] h = All-nil (λ line. ¬ IsMark boundary line)
 no_marks boundary (text ∷ texts) h =
     let p = and_parts (not (begins_with_hyphen text)) (list_all (λ text. not (begins_with_hyphen text)) texts) h in
-    All-cons (λ line. ¬ IsMark boundary line) (crlf text) (map crlf texts) (unmarked boundary text (not-true (begins_with_hyphen text) p.0)) (no_marks boundary texts p.1)
+    All-cons (λ line. ¬ IsMark boundary line) (crlf text) (map crlf texts) (unmarked boundary text (not-true (begins_with_hyphen text) p.0))
+    (no_marks boundary texts p.1)
 
 -- ---- fields
 
@@ -113,7 +114,9 @@ pub field_line : (name raw : List ℕ) (texts : List (List ℕ)) → Names name 
     → fields (joined ((name ++ 58 ∷ raw) ∷ texts)) ≡ (name, trimmed_text (raw ++ 13 ∷ 10 ∷ [])) ∷ fields (joined texts)
 field_line name raw texts n free =
     let text = name ++ 58 ∷ raw in
-    let whole : (text ++ 13 ∷ []) ++ 10 ∷ [] ≡ name ++ 58 ∷ (raw ++ 13 ∷ 10 ∷ []) = append_assoc text (13 ∷ []) (10 ∷ []) ∙ append_assoc name (58 ∷ raw) (13 ∷ 10 ∷ []) in
-    let field : IsField ((text ++ 13 ∷ []) ++ 10 ∷ []) (name, trimmed_text (raw ++ 13 ∷ 10 ∷ [])) = record { raw = raw ++ 13 ∷ 10 ∷ []; whole = whole; some = n.some; named = n.named; value = refl } in
+    let whole : (text ++ 13 ∷ []) ++ 10 ∷ [] ≡ name ++ 58 ∷ (raw ++ 13 ∷ 10 ∷ []) = append_assoc text (13 ∷ []) (10 ∷ [])
+    ∙ append_assoc name (58 ∷ raw) (13 ∷ 10 ∷ []) in
+    let field : IsField ((text ++ 13 ∷ []) ++ 10 ∷ []) (name, trimmed_text (raw ++ 13 ∷ 10 ∷ [])) =
+    record { raw = raw ++ 13 ∷ 10 ∷ []; whole = whole; some = n.some; named = n.named; value = refl } in
     ap fields (sym (append_assoc text (13 ∷ []) (10 ∷ joined texts)))
     ∙ fields_front (text ++ 13 ∷ []) (joined texts) (name, trimmed_text (raw ++ 13 ∷ 10 ∷ [])) (no_feed_append text (13 ∷ []) n.whole refl) free field

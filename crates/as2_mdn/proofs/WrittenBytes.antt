@@ -106,7 +106,13 @@ skip_none b rest seen = rw seen refl
 bare_length : (text : List ℕ) → without_blanks text ≡ text → length text ≤ length (skip_blanks text)
 unfolding without_blanks
 bare_length text bare =
-    omega (arith, ap length bare, length-reverse (skip_blanks (reverse (skip_blanks text))), skip_shorter (reverse (skip_blanks text)), length-reverse (skip_blanks text))
+    omega (
+      arith,
+      ap length bare,
+      length-reverse (skip_blanks (reverse (skip_blanks text))),
+      skip_shorter (reverse (skip_blanks text)),
+      length-reverse (skip_blanks text),
+    )
 
 back_length : (text : List ℕ) → without_blanks text ≡ text → skip_blanks text ≡ text → length (reverse text) ≤ length (skip_blanks (reverse text))
 unfolding without_blanks
@@ -135,7 +141,8 @@ bare_solid [] bare printable some = absurd (some refl)
 bare_solid (b ∷ rest) bare printable some =
     let seen : is_blank b ≡ false = first_seen b rest (bare_length (b ∷ rest) bare) in
     let back = back_length (b ∷ rest) bare (skip_none b rest seen) in
-    solid b rest (is_margin_of b (and_parts (is_printable b) (list_all is_printable rest) printable).0 seen) (ends_back (b ∷ rest) (reverse (b ∷ rest)) refl printable some back)
+    solid b rest (is_margin_of b (and_parts (is_printable b) (list_all is_printable rest) printable).0 seen)
+    (ends_back (b ∷ rest) (reverse (b ∷ rest)) refl printable some back)
 
 some_value : (text : List ℕ) → 0 < length (without_brackets text) → text ≡ [] → ⊥
 unfolding without_brackets
@@ -150,7 +157,8 @@ identifier_no_feed id x = no_feed_of is_printable id refl x.printable
 
 -- the value of a line that is a space and a solid text
 pub value_trimmed : (text : List ℕ) → IsSolid text → trimmed_text ((32 ∷ text) ++ 13 ∷ 10 ∷ []) ≡ text
-value_trimmed text s = padded_trimmed ((32 ∷ text) ++ 13 ∷ 10 ∷ []) text (record { front = 32 ∷ []; back = 13 ∷ 10 ∷ []; whole = refl; blank_front = refl; blank_back = refl }) s
+value_trimmed text s = padded_trimmed ((32 ∷ text) ++ 13 ∷ 10 ∷ []) text
+    (record { front = 32 ∷ []; back = 13 ∷ 10 ∷ []; whole = refl; blank_front = refl; blank_back = refl }) s
 
 -- ---- MICs
 
@@ -169,4 +177,5 @@ mic_solid (b ∷ rest) h some = solid b rest (mic_inside b (and_parts (is_mic_by
 -- and what stands behind it
 pub mic_solid_front : (text back : List ℕ) → list_all is_mic_byte text ≡ true → 0 < length text → IsUnpadded back → IsSolid (text ++ back)
 mic_solid_front [] back h some e = absurd (omega (arith, some))
-mic_solid_front (b ∷ rest) back h some e = solid b (rest ++ back) (mic_inside b (and_parts (is_mic_byte b) (list_all is_mic_byte rest) h).0) (front_ends (b ∷ rest) back e)
+mic_solid_front (b ∷ rest) back h some e =
+    solid b (rest ++ back) (mic_inside b (and_parts (is_mic_byte b) (list_all is_mic_byte rest) h).0) (front_ends (b ∷ rest) back e)

@@ -69,4 +69,5 @@ token_free mark text m h = passing_free is_token_byte mark text m (and_parts (no
 
 pub padded_free : (mark : ℕ) (text inner : List ℕ) → is_margin mark ≡ false → IsPadded text inner → is_free mark inner ≡ true → is_free mark text ≡ true
 padded_free mark text inner m p h =
-    rw p.whole (free_append mark (p.front ++ inner) p.back (free_append mark p.front inner (blank_free mark p.front m p.blank_front) h) (blank_free mark p.back m p.blank_back))
+    rw p.whole (free_append mark (p.front ++ inner) p.back (free_append mark p.front inner (blank_free mark p.front m p.blank_front) h)
+    (blank_free mark p.back m p.blank_back))

@@ -39,7 +39,8 @@ front_blank : (text : List ℕ) → all_fall_off (front_of text) ≡ true
 front_blank [] = refl
 front_blank (b ∷ rest) =
     elim (cases_Bool (falls_off b rest)) [
-      | inl off ↦ rw off (and_from (falls_off b (front_of rest)) (all_fall_off (front_of rest)) (falls_on b rest (front_of rest) (lf_front rest) off) (front_blank rest))
+      | inl off ↦ rw off (and_from (falls_off b (front_of rest)) (all_fall_off (front_of rest))
+          (falls_on b rest (front_of rest) (lf_front rest) off) (front_blank rest))
       | inr on ↦ rw on refl
     ]
 
@@ -64,7 +65,8 @@ pub trimmed_padded : (text : List ℕ) → IsPadded text (trimmed_text text)
 trimmed_padded text = record {
   front = front_of text;
   back = back_of (without_front text);
-  whole = front_whole text ∙ ap (λ (x : List ℕ). front_of text ++ x) (back_whole (without_front text)) ∙ sym (append_assoc (front_of text) (trimmed_text text) (back_of (without_front text)));
+  whole = front_whole text ∙ ap (λ (x : List ℕ). front_of text ++ x) (back_whole (without_front text))
+      ∙ sym (append_assoc (front_of text) (trimmed_text text) (back_of (without_front text)));
   blank_front = front_blank text;
   blank_back = back_blank (without_front text);
 }
@@ -110,7 +112,8 @@ some_kept [] h = h
 some_kept (b ∷ rest) h =
     elim (cases_Bool (all_fall_off rest)) [
       | inl all ↦
-          let on : falls_off b rest ≡ false = not_true (falls_off b rest) (falls_off b rest && all_fall_off rest) (λ t. and_from (falls_off b rest) (all_fall_off rest) t all) h in
+          let on : falls_off b rest ≡ false =
+          not_true (falls_off b rest) (falls_off b rest && all_fall_off rest) (λ t. and_from (falls_off b rest) (all_fall_off rest) t all) h in
           rw h (and_false (falls_off b (without_back rest)) (all_fall_off (without_back rest)) (stays_kept b rest on))
       | inr some ↦ rw h (and_false_last (falls_off b (without_back rest)) (all_fall_off (without_back rest)) (some_kept rest some))
     ]

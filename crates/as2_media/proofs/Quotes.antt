@@ -86,7 +86,11 @@ units_found false [] h = record { units = []; whole = refl; each = refl }
 units_found true (b ∷ rest) h =
     let p = and_parts (not (is_line_byte b)) (is_quoted_text false rest) h in
     let r : IsQuoted rest = units_found false rest p.1 in
-    record { units = pair b ∷ r.units; whole = ap (λ (x : List ℕ). backslash ∷ b ∷ x) r.whole; each = and_from (not (is_line_byte b)) (list_all is_unit r.units) p.0 r.each }
+    record {
+      units = pair b ∷ r.units;
+      whole = ap (λ (x : List ℕ). backslash ∷ b ∷ x) r.whole;
+      each = and_from (not (is_line_byte b)) (list_all is_unit r.units) p.0 r.each;
+    }
 units_found false (b ∷ rest) h =
     let p = and_parts (not (is_line_byte b)) (not (b == quote) && is_quoted_text (b == backslash) rest) h in
     let q = and_parts (not (b == quote)) (is_quoted_text (b == backslash) rest) p.1 in
@@ -99,7 +103,11 @@ units_found false (b ∷ rest) h =
           let behind : is_quoted_text false rest ≡ true = rw other at q.1 in
           let r : IsQuoted rest = units_found false rest behind in
           let stands : is_unit (qtext b) ≡ true = rw (p.0, q.0, other) refl in
-          record { units = qtext b ∷ r.units; whole = ap (λ (x : List ℕ). b ∷ x) r.whole; each = and_from (is_unit (qtext b)) (list_all is_unit r.units) stands r.each }
+          record {
+            units = qtext b ∷ r.units;
+            whole = ap (λ (x : List ℕ). b ∷ x) r.whole;
+            each = and_from (is_unit (qtext b)) (list_all is_unit r.units) stands r.each;
+          }
     ]
 
 pub quoted_found : (value : List ℕ) → is_quoted_text false value ≡ true → IsQuoted value

@@ -74,7 +74,8 @@ parameters_again room (text ∷ texts) ps s le =
 essence_again : (text type_name subtype : List ℕ) → IsPadded text (type_name ++ slash ∷ subtype) → is_token type_name ≡ true → is_token subtype ≡ true
     → essence text ≡ Ok (type_name, subtype)
 essence_again text type_name subtype p t s =
-    let inner : trimmed_text text ≡ type_name ++ slash ∷ subtype = padded_trimmed text (type_name ++ slash ∷ subtype) p (tokens_solid type_name slash subtype t (token_solid subtype s)) in
+    let inner : trimmed_text text ≡ type_name
+    ++ slash ∷ subtype = padded_trimmed text (type_name ++ slash ∷ subtype) p (tokens_solid type_name slash subtype t (token_solid subtype s)) in
     let free = token_free slash type_name refl t in
     rw (inner, cut_free slash type_name subtype free, t, s) refl
 
@@ -95,6 +96,7 @@ reading_joined front (text ∷ texts) ps f s =
 pub again : (text : List ℕ) (media : Media) → IsMediaType text media → media_type_reading text ≡ Ok media
 again text media m =
     let free = essence_free m.essence media.type_name media.subtype m.is m.type_token m.subtype_token in
-    let front : essence m.essence ≡ Ok (media.type_name, media.subtype) = essence_again m.essence media.type_name media.subtype m.is m.type_token m.subtype_token in
+    let front : essence m.essence ≡ Ok (media.type_name, media.subtype) =
+    essence_again m.essence media.type_name media.subtype m.is m.type_token m.subtype_token in
     let back : parameters 8 m.texts ≡ Ok media.parameters = parameters_again 8 m.texts media.parameters m.spell m.few in
     ap media_type_reading m.whole ∙ reading_joined m.essence m.texts media.parameters free m.spell ∙ rw (front, back) refl

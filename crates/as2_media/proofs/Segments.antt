@@ -26,7 +26,9 @@ not_end Escaped b on = refl
 
 pub scan_on : (place : Place) (text : List ℕ) (i : ℕ) → i < length text → (place ≡ Outside → get_or text i 0 ≡ 59 → ⊥)
     → Cuts (segments Outside text) (segments place) text i → Cuts (segments Outside text) (segments (next_place place (get_or text i 0))) text (i + 1)
-scan_on place text i lt on = cuts_on (segments Outside text) (segments place) (segments (next_place place (get_or text i 0))) text i lt (ap (segments place) (drop_more text i 0 lt) ∙ rw (not_end place (get_or text i 0) on) refl)
+scan_on place text i lt on =
+    cuts_on (segments Outside text) (segments place) (segments (next_place place (get_or text i 0))) text i lt
+    (ap (segments place) (drop_more text i 0 lt) ∙ rw (not_end place (get_or text i 0) on) refl)
 
 pub scan_ends : (place : Place) (text : List ℕ) (i : ℕ) → i < length text → place ≡ Outside → get_or text i 0 ≡ 59
     → Cuts (segments Outside text) (segments place) text i
@@ -37,7 +39,8 @@ scan_ends place text i lt outside end seen =
 
 pub scan_all : (place : Place) (text : List ℕ) → Cuts (segments Outside text) (segments place) text (length text) → segments Outside text ≡ text ∷ []
 scan_all place text seen =
-    cuts_here (segments Outside text) (segments place) (λ (rest : List ℕ). []) text [] (length text) (ap (segments place) (drop_all (length text) text (omega arith))) seen
+    cuts_here (segments Outside text) (segments place) (λ (rest : List ℕ). []) text [] (length text)
+    (ap (segments place) (drop_all (length text) text (omega arith))) seen
     ∙ rw (append-nil (take (length text) text), take_all (length text) text (omega arith)) refl
 
 -- ---- a text that is one segment
@@ -89,7 +92,8 @@ blank_closed text h = plain_closed text (blank_free quote text refl h) (blank_fr
 
 pub padded_closed : (text inner : List ℕ) → IsPadded text inner → is_closed Outside inner ≡ true → is_closed Outside text ≡ true
 padded_closed text inner p h =
-    rw p.whole (closed_append Outside (p.front ++ inner) p.back (closed_append Outside p.front inner (blank_closed p.front p.blank_front) h) (blank_closed p.back p.blank_back))
+    rw p.whole (closed_append Outside (p.front ++ inner) p.back (closed_append Outside p.front inner (blank_closed p.front p.blank_front) h)
+    (blank_closed p.back p.blank_back))
 
 -- between quotes
 abbrev place_of : Bool → Place
@@ -117,7 +121,8 @@ value_closed text value s =
 
 parameter_closed : (text : List ℕ) (p : List ℕ × List ℕ) → SpellsParameter text p → is_closed Outside text ≡ true
 parameter_closed text p s =
-    let left = plain_closed s.left (padded_free quote s.left p.0 refl s.named (token_free quote p.0 refl s.token)) (padded_free semicolon s.left p.0 refl s.named (token_free semicolon p.0 refl s.token)) in
+    let left = plain_closed s.left (padded_free quote s.left p.0 refl s.named (token_free quote p.0 refl s.token))
+    (padded_free semicolon s.left p.0 refl s.named (token_free semicolon p.0 refl s.token)) in
     rw s.whole (closed_append Outside s.left (equals_sign ∷ s.right) left (padded_closed s.right s.spelled s.given (value_closed s.spelled p.1 s.spells)))
 
 pub spell_closed : (text : List ℕ) (texts : List (List ℕ)) (ps : List (List ℕ × List ℕ)) → Spell (text ∷ texts) ps → is_closed Outside text ≡ true

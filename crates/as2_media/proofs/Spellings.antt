@@ -101,7 +101,10 @@ parameters_found room (text ∷ texts) ps h =
       | inr some ↦
           let one = and_then_found room text (parameter text) (parameters (room - 1) texts) ps refl (rw some at h) in
           let r = parameters_found (room - 1) texts one.others one.behind in
-          record { spell = inr (one.first, one.others, one.is, parameter_found text one.first one.read, r.spell); few = omega (arith, ap length one.is, r.few, one.some) }
+          record {
+            spell = inr (one.first, one.others, one.is, parameter_found text one.first one.read, r.spell);
+            few = omega (arith, ap length one.is, r.few, one.some);
+          }
     ]
 
 -- ---- the whole
@@ -132,7 +135,8 @@ found_in : (text front : List ℕ) (texts : List (List ℕ)) (media : Media) →
 found_in text front texts media whole h =
     let m = media_found (essence front) (parameters 8 texts) media h in
     let t = tokens_found (cut_at slash (trimmed_text front)) (media.type_name, media.subtype) m.0 in
-    let inner : trimmed_text front ≡ media.type_name ++ slash ∷ media.subtype = (cut_found slash (trimmed_text front) (media.type_name, media.subtype) t.0).whole in
+    let inner : trimmed_text front ≡ media.type_name
+    ++ slash ∷ media.subtype = (cut_found slash (trimmed_text front) (media.type_name, media.subtype) t.0).whole in
     let padded : IsPadded front (trimmed_text front) = trimmed_padded front in
     let r = parameters_found 8 texts media.parameters m.1 in
     record {

@@ -97,7 +97,8 @@ pub begins_with_one : BeginsWithOne
 begins_with_one text r q rest other b c =
     let f = one_frame text b.head c.head r.fields q.fields b.after c.after (Ok b.how) (Ok c.how) b.frames c.frames in
     let how : b.how ≡ c.how = cc f.3 in
-    let parts = one_body c.how c.after r.body rest q.body other (there b.how c.how b.after c.after (λ (h : BodyFraming) (t : List ℕ). BeginsBody h t r.body rest) how f.2 b.begins) c.begins in (
+    let parts = one_body c.how c.after r.body rest q.body other
+    (there b.how c.how b.after c.after (λ (h : BodyFraming) (t : List ℕ). BeginsBody h t r.body rest) how f.2 b.begins) c.begins in (
       same_request r q
           (b.method ∙ ap (λ (h : RequestHead). method_of h.method) f.0 ∙ sym c.method)
           (b.target ∙ ap (λ (h : RequestHead). target_of h.target) f.0 ∙ sym c.target)
@@ -117,7 +118,8 @@ pub refuses_in_one_way : RefusesInOneWay
 refuses_in_one_way text a b (too_long none long is) (too_long other more same) = is ∙ sym same
 refuses_in_one_way text a b (too_long none long is) (no_head bytes after found never same) = is ∙ sym same
 refuses_in_one_way text a b (too_long none long is) (framing head fields after frames same) = absurd (no_head_text text frames.bytes after frames.found none)
-refuses_in_one_way text a b (too_long none long is) (faulty_body head fields after how frames faulty same) = absurd (no_head_text text frames.bytes after frames.found none)
+refuses_in_one_way text a b (too_long none long is) (faulty_body head fields after how frames faulty same) =
+    absurd (no_head_text text frames.bytes after frames.found none)
 refuses_in_one_way text a b (no_head bytes after found never is) (too_long other more same) = is ∙ sym same
 refuses_in_one_way text a b (no_head bytes after found never is) (no_head others y place nowhere same) = is ∙ sym same
 refuses_in_one_way text a b (no_head bytes after found never is) (framing head fields y frames same) =
@@ -132,7 +134,8 @@ refuses_in_one_way text a b (framing h fields x f is) (framing k others y g same
     same_refused a b (cc e.3) (is ∙ ap (λ (r : RequestHead). is_head (method_of r.method)) e.0 ∙ sym same)
 refuses_in_one_way text a b (framing h fields x f is) (faulty_body k others y how g faulty same) =
     let e = one_frame text h k fields others x y (Err a.reason) (Ok how) f g in absurd (cc e.3)
-refuses_in_one_way text a b (faulty_body head fields after how frames faulty is) (too_long none long same) = absurd (no_head_text text frames.bytes after frames.found none)
+refuses_in_one_way text a b (faulty_body head fields after how frames faulty is) (too_long none long same) =
+    absurd (no_head_text text frames.bytes after frames.found none)
 refuses_in_one_way text a b (faulty_body head fields after how frames faulty is) (no_head bytes y found never same) =
     absurd (no_frame text bytes y found never head fields after (Ok how) frames)
 refuses_in_one_way text a b (faulty_body h fields x how f faulty is) (framing k others y g same) =
@@ -140,7 +143,8 @@ refuses_in_one_way text a b (faulty_body h fields x how f faulty is) (framing k 
 refuses_in_one_way text a b (faulty_body h fields x how f faulty is) (faulty_body k others y other g bad same) =
     let e = one_frame text h k fields others x y (Ok how) (Ok other) f g in
     let one : how ≡ other = cc e.3 in
-    same_refused a b (one_fault other y a.reason b.reason (there how other x y (λ (h : BodyFraming) (t : List ℕ). IsFaultyBody h t a.reason) one e.2 faulty) bad)
+    same_refused a b (one_fault other y a.reason b.reason
+    (there how other x y (λ (h : BodyFraming) (t : List ℕ). IsFaultyBody h t a.reason) one e.2 faulty) bad)
     (is ∙ ap (λ (r : RequestHead). is_head (method_of r.method)) e.0 ∙ sym same)
 
 pub never_refuses_requests : NeverRefusesRequests
@@ -152,7 +156,8 @@ never_refuses_requests text r rest refused b (framing k fields x g is) =
     absurd (cc e.3)
 never_refuses_requests text r rest refused b (faulty_body k fields x how g faulty is) =
     let e = one_frame text b.head k r.fields fields b.after x (Ok b.how) (Ok how) b.frames g in
-    body_not_faulty how x r.body rest refused.reason (there b.how how b.after x (λ (h : BodyFraming) (t : List ℕ). BeginsBody h t r.body rest) (cc e.3) e.2 b.begins) faulty
+    body_not_faulty how x r.body rest refused.reason
+    (there b.how how b.after x (λ (h : BodyFraming) (t : List ℕ). BeginsBody h t r.body rest) (cc e.3) e.2 b.begins) faulty
 
 pub never_opens_requests : NeverOpensRequests
 never_opens_requests text r rest b (in_head none short) = no_head_text text b.frames.bytes b.after b.frames.found none
@@ -164,11 +169,13 @@ pub never_opens_refused : NeverOpensRefused
 never_opens_refused text refused (too_long none long is) (in_head other short) = absurd (omega (arith, long, short))
 never_opens_refused text refused (too_long none long is) (in_body k fields x how g undecided) = no_head_text text g.bytes x g.found none
 never_opens_refused text refused (no_head bytes after found never is) (in_head none short) = no_head_text text bytes after found none
-never_opens_refused text refused (no_head bytes after found never is) (in_body k fields x how g undecided) = no_frame text bytes after found never k fields x (Ok how) g
+never_opens_refused text refused (no_head bytes after found never is) (in_body k fields x how g undecided) =
+    no_frame text bytes after found never k fields x (Ok how) g
 never_opens_refused text refused (framing h fields x f is) (in_head none short) = no_head_text text f.bytes x f.found none
 never_opens_refused text refused (framing h fields x f is) (in_body k others y how g undecided) =
     let e = one_frame text h k fields others x y (Err refused.reason) (Ok how) f g in absurd (cc e.3)
 never_opens_refused text refused (faulty_body h fields x how f faulty is) (in_head none short) = no_head_text text f.bytes x f.found none
 never_opens_refused text refused (faulty_body h fields x how f faulty is) (in_body k others y other g undecided) =
     let e = one_frame text h k fields others x y (Ok how) (Ok other) f g in
-    faulty_not_open other y refused.reason (there how other x y (λ (h : BodyFraming) (t : List ℕ). IsFaultyBody h t refused.reason) (cc e.3) e.2 faulty) undecided
+    faulty_not_open other y refused.reason
+    (there how other x y (λ (h : BodyFraming) (t : List ℕ). IsFaultyBody h t refused.reason) (cc e.3) e.2 faulty) undecided

@@ -32,7 +32,8 @@ use Rattle.as2_messages.proofs.AnswerHeads.{judged_frames, frames_more}
 -- before any of it came
 pub awaits_first : (text after : List ℕ) (a : AwaitedAnswer) (end : BodyEnd) → a.answer.body ≡ [] → HoldsEnd a.missing end [] after after
     → FramesAnswer text a.answer.status a.answer.fields after (Some end) → AwaitsAnswer a text after
-awaits_first text after a end none held f = record { after = after; end = end; frames = f; holds = subst (λ (b : List ℕ). HoldsEnd a.missing end b after after) (sym none) held }
+awaits_first text after a end none held f =
+    record { after = after; end = end; frames = f; holds = subst (λ (b : List ℕ). HoldsEnd a.missing end b after after) (sym none) held }
 
 end_more : (m : MissingEnd) (end : BodyEnd) (body text more : List ℕ) → HoldsEnd m end body text [] → HoldsEnd m end body (text ++ more) more
 end_more (missing.Body m) (Framing how) body text more h = body_more m how body text more h
@@ -73,7 +74,8 @@ end_cut text after r m (Framing how) some f h = in_body r.status r.fields after 
 end_cut text after r m WithInput some f h = absurd h
 
 awaits_cut : (a : AwaitedAnswer) (text : List ℕ) (m : MissingBody) → a.missing ≡ missing.Body m → IsMissing m → AwaitsAnswer a text [] → IsCutAnswer text
-awaits_cut a text m is some w = end_cut text w.after a.answer m w.end some w.frames (subst (λ (x : MissingEnd). HoldsEnd x w.end a.answer.body w.after []) is w.holds)
+awaits_cut a text m is some w =
+    end_cut text w.after a.answer m w.end some w.frames (subst (λ (x : MissingEnd). HoldsEnd x w.end a.answer.body w.after []) is w.holds)
 
 kept_open : (a : AwaitedAnswer) (m : MissingEnd) (text : List ℕ) → a.missing ≡ m → IsMissingEnd m → AwaitsAnswer a text [] → IsOpenAnswer text
 kept_open a (missing.Body m) text is some w = inl (awaits_cut a text m is some w)
@@ -151,7 +153,8 @@ pub feeds_answer : (old new : ReceivedAnswer) (m n : MissingBody) (text bytes : 
 feeds_answer old new m n text bytes f g is status fields feeds w =
     subst (FeedsAnswer new n text) is
     (feeds_end old new m n text w.after bytes w.end f feeds
-    (subst (λ (x : Fields). FramesAnswer text new.status x w.after (Some w.end)) (sym fields) (subst (λ (s : ℕ). FramesAnswer text s old.fields w.after (Some w.end)) (sym status) w.frames))
+    (subst (λ (x : Fields). FramesAnswer text new.status x w.after (Some w.end)) (sym fields)
+    (subst (λ (s : ℕ). FramesAnswer text s old.fields w.after (Some w.end)) (sym status) w.frames))
     w.holds)
 
 large_end : (text after bytes : List ℕ) (r : ReceivedAnswer) (end : BodyEnd) → FramesAnswer text r.status r.fields after (Some end)
@@ -166,14 +169,16 @@ all_too_large text bytes r w large = large_end text w.after bytes r w.end w.fram
 all_end : (text after bytes : List ℕ) (old new : ReceivedAnswer) (end : BodyEnd) → FramesAnswer text new.status new.fields after (Some end)
     → HoldsEnd missing.Input end old.body after bytes → new.body ≡ old.body ++ bytes
     → length bytes ≤ body_limit - length old.body → HoldsEnd missing.Input end new.body after []
-all_end text after bytes old new WithInput f h is few = (h.0 ∙ sym is ∙ sym (append-nil new.body), omega (arith, ap length is, length-append old.body bytes, h.1, few))
+all_end text after bytes old new WithInput f h is few =
+    (h.0 ∙ sym is ∙ sym (append-nil new.body), omega (arith, ap length is, length-append old.body bytes, h.1, few))
 all_end text after bytes old new (Framing how) f h is few = absurd h
 
 pub takes_all : (text bytes : List ℕ) (old new : ReceivedAnswer) → new.status ≡ old.status → new.fields ≡ old.fields → new.body ≡ old.body ++ bytes
     → length bytes ≤ body_limit - length old.body
     → AwaitsAnswer (record { answer = old; missing = missing.Input }) text bytes → AwaitsAnswer (record { answer = new; missing = missing.Input }) text []
 takes_all text bytes old new status fields is few w =
-    let frames = subst (λ (x : Fields). FramesAnswer text new.status x w.after (Some w.end)) (sym fields) (subst (λ (s : ℕ). FramesAnswer text s old.fields w.after (Some w.end)) (sym status) w.frames) in
+    let frames = subst (λ (x : Fields). FramesAnswer text new.status x w.after (Some w.end)) (sym fields)
+    (subst (λ (s : ℕ). FramesAnswer text s old.fields w.after (Some w.end)) (sym status) w.frames) in
     record { after = w.after; end = w.end; frames = frames; holds = all_end text w.after bytes old new w.end frames w.holds is few }
 
 -- ---- no answer
@@ -184,4 +189,5 @@ none_judged text after bytes head same found never = no_head bytes after (subst 
 
 pub none_framed : (text after bytes head : List ℕ) (j : JudgedAnswer) → bytes ≡ head → HasHeadText text head after → JudgesAnswer bytes j → j.end ≡ None
     → IsNoAnswer text
-none_framed text after bytes head j same found q none = no_body j.status j.fields after (judged_frames text bytes after j None (subst (λ (b : List ℕ). HasHeadText text b after) (sym same) found) q none)
+none_framed text after bytes head j same found q none =
+    no_body j.status j.fields after (judged_frames text bytes after j None (subst (λ (b : List ℕ). HasHeadText text b after) (sym same) found) q none)

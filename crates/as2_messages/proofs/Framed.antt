@@ -49,6 +49,8 @@ faulty_append how text more NoLength f = absurd f
 pub refuses_append : (text more : List ℕ) (refused : Refused) → BeginsNoRequest text refused → BeginsNoRequest (text ++ more) refused
 refuses_append text more refused (too_long none long is) = too_long (window_full text more long none) (omega (arith, long, length-append text more)) is
 refuses_append text more refused (no_head bytes after found never is) = no_head bytes (after ++ more) (head_append text more bytes after found) never is
-refuses_append text more refused (framing head fields after frames is) = framing head fields (after ++ more) (frames_append text more head fields after (Err refused.reason) frames) is
+refuses_append text more refused (framing head fields after frames is) =
+    framing head fields (after ++ more) (frames_append text more head fields after (Err refused.reason) frames) is
 refuses_append text more refused (faulty_body head fields after how frames faulty is) =
-    faulty_body head fields (after ++ more) how (frames_append text more head fields after (Ok how) frames) (faulty_append how after more refused.reason faulty) is
+    faulty_body head fields (after ++ more) how (frames_append text more head fields after (Ok how) frames)
+    (faulty_append how after more refused.reason faulty) is

@@ -60,7 +60,8 @@ pub not_taken : (buf : List ℕ) (headers : List HeaderSpan) (r : Result (Status
 not_taken buf headers (Ok (Complete q)) s f is none head fields h =
     let at = f head [] h.0 (few_fields buf head fields h) in
     let same : q ≡ s = cc in
-    let e : map (header_bytes buf) (take s.headers headers) ≡ map name_and_value head.fields = ap (λ (x : RequestSpans). map (header_bytes buf) (take x.headers headers)) (sym same) ∙ at.fields in
+    let e : map (header_bytes buf) (take s.headers headers) ≡ map name_and_value head.fields =
+    ap (λ (x : RequestSpans). map (header_bytes buf) (take x.headers headers)) (sym same) ∙ at.fields in
     absurd (cc (sym none ∙ ap (fields_behind []) e ∙ h.1))
 not_taken buf headers (Ok Partial) s f is none head fields h = absurd cc
 not_taken buf headers (Err e) s f is none head fields h = absurd cc

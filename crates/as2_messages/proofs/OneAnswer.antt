@@ -29,16 +29,25 @@ one_frame : (text : List ℕ) (s t : ℕ) (fields others : Fields) (x y : List �
 one_frame text s t fields others x y m n f g =
     let at = one_head_text text f.bytes g.bytes x y f.found g.found in
     let h = one_head g.bytes f.head g.head fields others (subst (λ (b : List ℕ). IsAnswerHead b f.head fields) at.0 f.reads) g.reads in
-    let code : s ≡ t = f.code ∙ ap status_code h.0 ∙ sym g.code in
-    (code, h.1, at.1, sym f.ends ∙ ap (λ (c : ℕ). body_end c f.head.minor fields) code ∙ ap (λ (r : ResponseHead). body_end t r.minor fields) h.0 ∙ ap (body_end t g.head.minor) h.1 ∙ g.ends)
+    let code : s ≡ t = f.code ∙ ap status_code h.0 ∙ sym g.code in (
+      code,
+      h.1,
+      at.1,
+      sym f.ends ∙ ap (λ (c : ℕ). body_end c f.head.minor fields) code ∙ ap (λ (r : ResponseHead). body_end t r.minor fields) h.0
+          ∙ ap (body_end t g.head.minor) h.1 ∙ g.ends,
+    )
 
 -- a body that has its length
 one_begun : (input : List ℕ) (s t : ℕ) (f g : Fields) (b c rest other : List ℕ) → BeginsAnswer input s f b rest → BeginsAnswer input t g c other → (s ≡ t)
     × (f ≡ g) × (b ≡ c)
 one_begun input s t f g b c rest other x y =
     let e = one_frame input s t f g x.after y.after (Some (Framing x.how)) (Some (Framing y.how)) x.frames y.frames in
-    let how : x.how ≡ y.how = cc e.3 in
-    (e.0, e.1, (one_body y.how y.after b rest c other (there x.how y.how x.after y.after (λ (h : BodyFraming) (t : List ℕ). BeginsBody h t b rest) how e.2 x.begins) y.begins).0)
+    let how : x.how ≡ y.how = cc e.3 in (
+      e.0,
+      e.1,
+      (one_body y.how y.after b rest c other
+          (there x.how y.how x.after y.after (λ (h : BodyFraming) (t : List ℕ). BeginsBody h t b rest) how e.2 x.begins) y.begins).0,
+    )
 
 pub holds_one : HoldsOneAnswer
 holds_one input s t f g b c (by_length rest x) (by_length other y) = one_begun input s t f g b c rest other x y
@@ -103,7 +112,8 @@ pub never_opens_answers : NeverOpensAnswers
 never_opens_answers text s f body rest b (inl (in_head none short)) = unframed text s f b.after (Some (Framing b.how)) b.frames none
 never_opens_answers text s f body rest b (inl (in_body t g after how frames undecided)) =
     let e = one_frame text s t f g b.after after (Some (Framing b.how)) (Some (Framing how)) b.frames frames in
-    body_not_open how after body rest (there b.how how b.after after (λ (h : BodyFraming) (u : List ℕ). BeginsBody h u body rest) (cc e.3) e.2 b.begins) undecided
+    body_not_open how after body rest
+    (there b.how how b.after after (λ (h : BodyFraming) (u : List ℕ). BeginsBody h u body rest) (cc e.3) e.2 b.begins) undecided
 never_opens_answers text s f body rest b (inr w) =
     let e = one_frame text s w.0 f w.1 b.after w.2 (Some (Framing b.how)) (Some WithInput) b.frames w.3.frames in absurd (cc e.3)
 
@@ -112,12 +122,14 @@ never_opens_none text (too_long none long) (inl (in_head other short)) = absurd 
 never_opens_none text (too_long none long) (inl (in_body t g after how frames undecided)) = unframed text t g after (Some (Framing how)) frames none
 never_opens_none text (too_long none long) (inr w) = unframed text w.0 w.1 w.2 (Some WithInput) w.3.frames none
 never_opens_none text (no_head bytes after found never) (inl (in_head none short)) = absurd (cc (sym found.0 ∙ none))
-never_opens_none text (no_head bytes after found never) (inl (in_body t g x how frames undecided)) = no_frame text bytes after found never t g x (Some (Framing how)) frames
+never_opens_none text (no_head bytes after found never) (inl (in_body t g x how frames undecided)) =
+    no_frame text bytes after found never t g x (Some (Framing how)) frames
 never_opens_none text (no_head bytes after found never) (inr w) = no_frame text bytes after found never w.0 w.1 w.2 (Some WithInput) w.3.frames
 never_opens_none text (no_body s f after frames) (inl (in_head none short)) = unframed text s f after None frames none
 never_opens_none text (no_body s f after frames) (inl (in_body t g x how others undecided)) =
     let e = one_frame text s t f g after x None (Some (Framing how)) frames others in absurd (cc e.3)
-never_opens_none text (no_body s f after frames) (inr w) = let e = one_frame text s w.0 f w.1 after w.2 None (Some WithInput) frames w.3.frames in absurd (cc e.3)
+never_opens_none text (no_body s f after frames) (inr w) = let e =
+    one_frame text s w.0 f w.1 after w.2 None (Some WithInput) frames w.3.frames in absurd (cc e.3)
 never_opens_none text (too_large s f after frames large) (inl (in_head none short)) = unframed text s f after (Some WithInput) frames none
 never_opens_none text (too_large s f after frames large) (inl (in_body t g x how others undecided)) =
     let e = one_frame text s t f g after x (Some WithInput) (Some (Framing how)) frames others in absurd (cc e.3)

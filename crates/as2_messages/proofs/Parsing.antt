@@ -41,7 +41,9 @@ pub judged_refused : (text bytes after : List ℕ) (j : Judged) (reason : Reques
     → j.framing ≡ Err reason → to_head ≡ is_head j.method
     → BeginsNoRequest text (record { reason = reason; to_head = to_head })
 judged_refused text bytes after j reason to_head found q is same =
-    framing q.head j.fields after (subst (λ (l : Result BodyFraming RequestFault). Frames text q.head j.fields after l) is (judged_frames text bytes after j found q)) (same ∙ ap is_head q.method)
+    framing q.head j.fields after
+    (subst (λ (l : Result BodyFraming RequestFault). Frames text q.head j.fields after l) is (judged_frames text bytes after j found q))
+    (same ∙ ap is_head q.method)
 
 -- the bytes that were refused are those of the head
 pub head_refused : (bytes head : List ℕ) (r : Result Awaited NotAwaited) (n : NotAwaited) (refused : Refused) → IfErr r (RefusesHead bytes) → r ≡ Err n
@@ -66,7 +68,8 @@ judged_awaits text bytes after j a how found q is fields method target last none
   head = q.head;
   after = after;
   how = how;
-  frames = subst (λ (f : Fields). Frames text q.head f after (Ok how)) (sym fields) (subst (λ (l : Result BodyFraming RequestFault). Frames text q.head j.fields after l) is (judged_frames text bytes after j found q));
+  frames = subst (λ (f : Fields). Frames text q.head f after (Ok how)) (sym fields)
+      (subst (λ (l : Result BodyFraming RequestFault). Frames text q.head j.fields after l) is (judged_frames text bytes after j found q));
   holds = subst (λ (b : List ℕ). HoldsBody a.missing how b after after) (sym none) held;
   method = method ∙ q.method;
   target = target ∙ q.target;
@@ -136,7 +139,8 @@ pub fed_as : (old new : Awaited) (bytes : List ℕ) (from : ℕ) (f g : BodyPiec
     → FeedsRequest old new text (take (length bytes - from) (drop from bytes)) f)
     → (text : List ℕ) → Awaits old text (drop from bytes) → FeedsRequest old new text (drop from bytes) g
 fed_as old new bytes from f g is feeds text w =
-    subst (λ (x : BodyPiece). FeedsRequest old new text (drop from bytes) x) is (subst (λ (rest : List ℕ). (t : List ℕ) → Awaits old t rest → FeedsRequest old new t rest f) (rest_of from bytes) feeds text w)
+    subst (λ (x : BodyPiece). FeedsRequest old new text (drop from bytes) x) is
+    (subst (λ (rest : List ℕ). (t : List ℕ) → Awaits old t rest → FeedsRequest old new t rest f) (rest_of from bytes) feeds text w)
 
 pub awaited_fed : {E : Type 0} (old new : Awaited) (rest : List ℕ) (r : Result BodyPiece E) → new.request.fields ≡ old.request.fields
     → new.request.method ≡ old.request.method → new.request.target ≡ old.request.target → new.request.last ≡ old.request.last

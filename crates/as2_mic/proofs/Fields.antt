@@ -32,4 +32,5 @@ empty_digest value before behind digest field c e zero f = f.has_digest (the_dig
 
 pub the_field : (value before behind mic digest : List ℕ) (field : List ℕ × List ℕ) → IsCutAt comma value before behind → mic ≡ trimmed_text before
     → digest ≡ trimmed_text behind → IsMicField value field → (mic, digest) ≡ field
-the_field value before behind mic digest field c m d f = λ i. ((m ∙ sym (the_mic value before behind field c f)) i, (d ∙ sym (the_digest value before behind field c f)) i)
+the_field value before behind mic digest field c m d f =
+    λ i. ((m ∙ sym (the_mic value before behind field c f)) i, (d ∙ sym (the_digest value before behind field c f)) i)

@@ -19,7 +19,8 @@ piece_by i content piece more false is = absurd (cc)
 
 pub piece_more : (i : ℕ) (content piece : List ℕ) → piece_at content i ≡ Some piece → front i content ++ piece ≡ front (i + 1) content
 piece_more i content piece is =
-    ap (λ p. front i content ++ p) (sym (piece_by i content piece (take piece_size (drop (i * piece_size) content)) (nat_lt (i * piece_size) (length content)) is))
+    ap (λ p. front i content ++ p)
+    (sym (piece_by i content piece (take piece_size (drop (i * piece_size) content)) (nat_lt (i * piece_size) (length content)) is))
     ∙ sym (front_more i content)
 
 none_by : (i : ℕ) (content more : List ℕ) (b : Bool) → nat_lt (i * piece_size) (length content) ≡ b → cond b (Some more) None ≡ None
@@ -29,7 +30,8 @@ none_by i content more false has is = grind (arith, nat_tests)
 
 pub piece_none : (i : ℕ) (content : List ℕ) → piece_at content i ≡ None → front i content ≡ front (i + 1) content
 piece_none i content is =
-    let all : length content ≤ i * piece_size = none_by i content (take piece_size (drop (i * piece_size) content)) (nat_lt (i * piece_size) (length content)) refl is in
+    let all : length content ≤ i * piece_size =
+    none_by i content (take piece_size (drop (i * piece_size) content)) (nat_lt (i * piece_size) (length content)) refl is in
     take_all (i * piece_size) content all ∙ sym (take_all ((i + 1) * piece_size) content (omega (arith, all)))
 
 pub front_all : (content : List ℕ) → front (piece_count content) content ≡ content

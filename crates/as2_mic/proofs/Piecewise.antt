@@ -19,15 +19,18 @@ length_front : {X : Type 0} (f : X → List ℕ) (xs : List X) (i : ℕ) → Are
 length_front f xs i h le = length_whole f (take i xs) (All-take (λ x. length (f x) ≡ 65536) i xs h) ∙ ap (λ (n : ℕ). n * 65536) (length-take-le i xs le)
 
 parted : {X : Type 0} (f : X → List ℕ) (xs : List X) (l : List ℕ) (i : ℕ) → flat_map f xs ++ l ≡ flat_map f (take i xs) ++ (flat_map f (drop i xs) ++ l)
-parted f xs l i = ap (λ xs'. flat_map f xs' ++ l) (sym (take-append-drop i xs)) ∙ ap (λ (x : List ℕ). x ++ l) (flat_map-append f (take i xs) (drop i xs)) ∙ append_assoc (flat_map f (take i xs)) (flat_map f (drop i xs)) l
+parted f xs l i = ap (λ xs'. flat_map f xs' ++ l) (sym (take-append-drop i xs))
+    ∙ ap (λ (x : List ℕ). x ++ l) (flat_map-append f (take i xs) (drop i xs)) ∙ append_assoc (flat_map f (take i xs)) (flat_map f (drop i xs)) l
 
 pub take_whole : {X : Type 0} (f : X → List ℕ) (xs : List X) (l : List ℕ) (i : ℕ) → AreWhole f xs → i ≤ length xs
     → take (i * 65536) (flat_map f xs ++ l) ≡ flat_map f (take i xs)
-take_whole f xs l i h le = ap (take (i * 65536)) (parted f xs l i) ∙ take_at (flat_map f (take i xs)) (flat_map f (drop i xs) ++ l) (i * 65536) (length_front f xs i h le)
+take_whole f xs l i h le = ap (take (i * 65536)) (parted f xs l i)
+    ∙ take_at (flat_map f (take i xs)) (flat_map f (drop i xs) ++ l) (i * 65536) (length_front f xs i h le)
 
 pub drop_whole : {X : Type 0} (f : X → List ℕ) (xs : List X) (l : List ℕ) (i : ℕ) → AreWhole f xs → i ≤ length xs
     → drop (i * 65536) (flat_map f xs ++ l) ≡ flat_map f (drop i xs) ++ l
-drop_whole f xs l i h le = ap (drop (i * 65536)) (parted f xs l i) ∙ drop_at (flat_map f (take i xs)) (flat_map f (drop i xs) ++ l) (i * 65536) (length_front f xs i h le)
+drop_whole f xs l i h le = ap (drop (i * 65536)) (parted f xs l i)
+    ∙ drop_at (flat_map f (take i xs)) (flat_map f (drop i xs) ++ l) (i * 65536) (length_front f xs i h le)
 
 pub length_all : {X : Type 0} (f : X → List ℕ) (xs : List X) (l : List ℕ) → AreWhole f xs → length (flat_map f xs ++ l) ≡ length xs * 65536 + length l
 length_all f xs l h = length-append (flat_map f xs) l ∙ ap (λ (n : ℕ). n + length l) (length_whole f xs h)
@@ -35,7 +38,8 @@ length_all f xs l h = length-append (flat_map f xs) l ∙ ap (λ (n : ℕ). n + 
 -- from a whole piece on
 from_piece : {X : Type 0} (f : X → List ℕ) (xs : List X) (l : List ℕ) (i : ℕ) (d : X) → AreWhole f xs → i < length xs
     → drop (i * 65536) (flat_map f xs ++ l) ≡ f (get_or xs i d) ++ (flat_map f (drop (i + 1) xs) ++ l)
-from_piece f xs l i d h lt = drop_whole f xs l i h (omega (arith, lt)) ∙ ap (λ xs'. flat_map f xs' ++ l) (drop_more xs i d lt) ∙ append_assoc (f (get_or xs i d)) (flat_map f (drop (i + 1) xs)) l
+from_piece f xs l i d h lt = drop_whole f xs l i h (omega (arith, lt)) ∙ ap (λ xs'. flat_map f xs' ++ l) (drop_more xs i d lt)
+    ∙ append_assoc (f (get_or xs i d)) (flat_map f (drop (i + 1) xs)) l
 
 -- behind the whole pieces
 from_last : {X : Type 0} (f : X → List ℕ) (xs : List X) (l : List ℕ) → AreWhole f xs → drop (length xs * 65536) (flat_map f xs ++ l) ≡ l
@@ -49,19 +53,22 @@ whole_at f xs i d h lt = h i d lt
 pub piece_whole : {X : Type 0} (f : X → List ℕ) (xs : List X) (l : List ℕ) (i : ℕ) (d : X) → AreWhole f xs → i < length xs
     → piece_at (flat_map f xs ++ l) i ≡ Some (f (get_or xs i d))
 piece_whole f xs l i d h lt =
-    let inside : ltb (i * 65536) (length (flat_map f xs ++ l)) ≡ true = lt-ltb (i * 65536) (length (flat_map f xs ++ l)) (omega (arith, lt, length_all f xs l h)) in
+    let inside : ltb (i * 65536) (length (flat_map f xs ++ l)) ≡ true =
+    lt-ltb (i * 65536) (length (flat_map f xs ++ l)) (omega (arith, lt, length_all f xs l h)) in
     rw (inside, from_piece f xs l i d h lt, take_at (f (get_or xs i d)) (flat_map f (drop (i + 1) xs) ++ l) 65536 (whole_at f xs i d h lt)) refl
 
 pub piece_last : {X : Type 0} (f : X → List ℕ) (xs : List X) (l : List ℕ) (i : ℕ) → AreWhole f xs → length l ≤ 65536 → 0 < length l → i ≡ length xs
     → piece_at (flat_map f xs ++ l) i ≡ Some l
 piece_last f xs l i h le some at =
-    let inside : ltb (length xs * 65536) (length (flat_map f xs ++ l)) ≡ true = lt-ltb (length xs * 65536) (length (flat_map f xs ++ l)) (omega (arith, some, length_all f xs l h)) in
+    let inside : ltb (length xs * 65536) (length (flat_map f xs ++ l)) ≡ true =
+    lt-ltb (length xs * 65536) (length (flat_map f xs ++ l)) (omega (arith, some, length_all f xs l h)) in
     rw (at, inside, from_last f xs l h, take_all 65536 l le) refl
 
 pub piece_none : {X : Type 0} (f : X → List ℕ) (xs : List X) (l : List ℕ) (i : ℕ) → AreWhole f xs → length xs * 65536 + length l ≤ i * 65536
     → piece_at (flat_map f xs ++ l) i ≡ None
 piece_none f xs l i h le =
-    let outside : ltb (i * 65536) (length (flat_map f xs ++ l)) ≡ false = le-ltb (i * 65536) (length (flat_map f xs ++ l)) (omega (arith, le, length_all f xs l h)) in
+    let outside : ltb (i * 65536) (length (flat_map f xs ++ l)) ≡ false =
+    le-ltb (i * 65536) (length (flat_map f xs ++ l)) (omega (arith, le, length_all f xs l h)) in
     rw outside refl
 
 -- ---- what is left of them, where all but the first n bytes are taken off
@@ -86,7 +93,8 @@ cut_piece f xs l n w d h le is lt =
     ap (take (n - w * 65536)) (from_piece f xs l w d h lt) ∙ take_front (n - w * 65536) (f (get_or xs w d)) (flat_map f (drop (w + 1) xs) ++ l) fits in
     let kept : flat_map f (take w xs) ++ take (n - w * 65536) (f (get_or xs w d)) ≡ take n content =
     sym (take_parts w n content (omega (arith, is)) ∙ rw (back, take_whole f xs l w h (omega (arith, lt))) refl) in
-    kept_as f (take w xs) (take (n - w * 65536) (f (get_or xs w d))) (take n content) (All-take (λ x. length (f x) ≡ 65536) w xs h) (omega (arith, fits, whole_at f xs w d h lt, length-take-le (n - w * 65536) (f (get_or xs w d)) fits)) kept
+    kept_as f (take w xs) (take (n - w * 65536) (f (get_or xs w d))) (take n content) (All-take (λ x. length (f x) ≡ 65536) w xs h)
+    (omega (arith, fits, whole_at f xs w d h lt, length-take-le (n - w * 65536) (f (get_or xs w d)) fits)) kept
 
 pub cut_last : {X : Type 0} (f : X → List ℕ) (xs : List X) (l : List ℕ) (n w : ℕ) → AreWhole f xs → length l ≤ 65536 → n ≤ length (flat_map f xs ++ l)
     → w ≡ (n - 1) / 65536 → length xs ≤ w → IsKeptAs f xs (take (n - w * 65536) l) (take n (flat_map f xs ++ l))

@@ -74,7 +74,8 @@ pub next_same : (xs ys : List ℕ) (i : ℕ) (one other : Option (Bor (List ℕ)
 next_same xs ys i one other lengths lt fronts is_one is_other h =
     let inside : i * 65536 < length xs = omega (arith, lt) in
     let equal = sym is_one ∙ piece_same one other (not_false (found_same one other) h) ∙ is_other in
-    let pieces = is_some_text (take 65536 (drop (i * 65536) xs)) (take 65536 (drop (i * 65536) ys)) (sym (piece_is xs i inside) ∙ equal ∙ piece_is ys i (omega (arith, inside, lengths))) in
+    let pieces = is_some_text (take 65536 (drop (i * 65536) xs)) (take 65536 (drop (i * 65536) ys))
+    (sym (piece_is xs i inside) ∙ equal ∙ piece_is ys i (omega (arith, inside, lengths))) in
     rw (front xs i, front ys i, fronts, pieces) refl
 
 -- and all is the same in the end

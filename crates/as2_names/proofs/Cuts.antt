@@ -61,7 +61,8 @@ parts_some : (byte : ℕ) (text : List ℕ) → slice_split (λ b. b == byte) te
 parts_some byte text e = absurd (omega (arith, ap length e, length-slice_split (λ b. b == byte) text))
 
 pub no_cut : (byte : ℕ) (text before behind : List ℕ) → Lacks byte text → IsCutAt byte text before behind → ⊥
-no_cut byte text before behind none c = parts_some byte behind (ap parts_behind (sym (parts_cut byte text before behind c) ∙ slice_split_none (λ b. b == byte) text none))
+no_cut byte text before behind none c =
+    parts_some byte behind (ap parts_behind (sym (parts_cut byte text before behind c) ∙ slice_split_none (λ b. b == byte) text none))
 
 -- ---- the cut as a value
 

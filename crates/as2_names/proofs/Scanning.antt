@@ -50,7 +50,8 @@ pub met_all : (text items : List ℕ) (count : ℕ) (s : Scans text items count 
 met_all text items count s le = s.first ∙ take_all 128 s.met (omega (arith, s.all))
 
 pub scanned_name : (text items : List ℕ) (count : ℕ) → Scans text items count false (quote ∷ []) → 0 < count → count ≤ 128 → IsName items
-scanned_name text items count s lt le = rw (met_all text items count s le) (record { some = omega (arith, s.all); short = omega (arith, s.all); printable = s.printable })
+scanned_name text items count s lt le =
+    rw (met_all text items count s le) (record { some = omega (arith, s.all); short = omega (arith, s.all); printable = s.printable })
 
 pub finished : (text items : List ℕ) (count : ℕ) (s : Scans text items count false (quote ∷ [])) → limited_name (units false text) ≡ limited_units s.met
 finished text items count s = ap limited_name (sym s.whole) ∙ ap limited_units (append-nil s.met)

@@ -84,7 +84,8 @@ units_take true (b ∷ rest) name h =
     let f = front_ok b (units false rest) name g.1 in
     rw f.2 (unquotes_special b rest f.0 g.0 (units_take false rest f.0 f.1))
 units_take false (b ∷ rest) name h =
-    elim (read_chosen (eqb b quote) (at_closing_quote rest) (cond (eqb b backslash) (units true rest) (cond (is_printable b) (with_front (b ∷ []) (units false rest)) (Err BadByte))) name h) [
+    elim (read_chosen (eqb b quote) (at_closing_quote rest)
+    (cond (eqb b backslash) (units true rest) (cond (is_printable b) (with_front (b ∷ []) (units false rest)) (Err BadByte))) name h) [
       | inl x ↦
           let e = closed_ok rest name x.1 in
           rw (e.0, e.1) (unquotes_end b x.0)

@@ -44,7 +44,8 @@ front_stays : (text : List ℕ) → HasNoFront text → skip_blanks (reverse (sk
 front_stays text b =
     let turned : reverse text ≡ reverse b.rest ++ b.first ∷ [] = ap reverse b.is ∙ reverse-append (b.first ∷ []) b.rest in
     let k = skip_keeps_last (reverse b.rest) b.first b.seen in
-    let back : reverse (skip_blanks (reverse text)) ≡ b.first ∷ reverse k.0 = ap (λ (t : List ℕ). reverse (skip_blanks t)) turned ∙ ap reverse k.1 ∙ reverse-append k.0 (b.first ∷ []) in
+    let back : reverse (skip_blanks (reverse text)) ≡ b.first ∷ reverse k.0 = ap (λ (t : List ℕ). reverse (skip_blanks t)) turned ∙ ap reverse k.1
+    ∙ reverse-append k.0 (b.first ∷ []) in
     skip_again (reverse (skip_blanks (reverse text))) (record { first = b.first; rest = reverse k.0; is = back; seen = b.seen })
 
 front_bare : (text : List ℕ) → skip_blanks (without_blanks text) ≡ without_blanks text

@@ -43,12 +43,16 @@ pub stays_off_at : (text : List ℕ) (kept i : ℕ) → i < length text → fall
     → Stays text (take kept text) (take i text) (drop i text) → Stays text (take kept text) (take (i + 1) text) (drop (i + 1) text)
 stays_off_at text kept i lt off s =
     let f : falls_off (get_or text i 0) (drop (i + 1) text) ≡ true = rw (← behind_all text i lt) off in
-    let p : Stays text (take kept text) (take i text) (get_or text i 0 ∷ drop (i + 1) text) = subst (Stays text (take kept text) (take i text)) (drop_more text i 0 lt) s in
-    subst (λ (x : List ℕ). Stays text (take kept text) x (drop (i + 1) text)) (sym (take_more text i 0 lt)) (stays_off text (take kept text) (take i text) (get_or text i 0) (drop (i + 1) text) f p)
+    let p : Stays text (take kept text) (take i text) (get_or text i 0 ∷ drop (i + 1) text) =
+    subst (Stays text (take kept text) (take i text)) (drop_more text i 0 lt) s in
+    subst (λ (x : List ℕ). Stays text (take kept text) x (drop (i + 1) text)) (sym (take_more text i 0 lt))
+    (stays_off text (take kept text) (take i text) (get_or text i 0) (drop (i + 1) text) f p)
 
 pub stays_on_at : (text : List ℕ) (kept i : ℕ) → i < length text → falls_off (get_or text i 0) (behind_at text i) ≡ false
     → Stays text (take kept text) (take i text) (drop i text) → Stays text (take (i + 1) text) (take (i + 1) text) (drop (i + 1) text)
 stays_on_at text kept i lt on s =
     let f : falls_off (get_or text i 0) (drop (i + 1) text) ≡ false = rw (← behind_all text i lt) on in
-    let p : Stays text (take kept text) (take i text) (get_or text i 0 ∷ drop (i + 1) text) = subst (Stays text (take kept text) (take i text)) (drop_more text i 0 lt) s in
-    subst (λ (x : List ℕ). Stays text x x (drop (i + 1) text)) (sym (take_more text i 0 lt)) (stays_on text (take kept text) (take i text) (get_or text i 0) (drop (i + 1) text) f p)
+    let p : Stays text (take kept text) (take i text) (get_or text i 0 ∷ drop (i + 1) text) =
+    subst (Stays text (take kept text) (take i text)) (drop_more text i 0 lt) s in
+    subst (λ (x : List ℕ). Stays text x x (drop (i + 1) text)) (sym (take_more text i 0 lt))
+    (stays_on text (take kept text) (take i text) (get_or text i 0) (drop (i + 1) text) f p)

@@ -15,7 +15,9 @@ lines_on text i lt other = cuts_on (lines text) lines lines text i lt (ap lines 
 
 pub lines_cut : (text : List ℕ) (i : ℕ) → i < length text → get_or text i 0 ≡ 10 → Cuts (lines text) lines text i
     → lines text ≡ take (i + 1) text ∷ lines (drop (i + 1) text)
-lines_cut text i lt feed seen = rw (take_more text i 0 lt) (cuts_here (lines text) lines lines text (get_or text i 0 ∷ []) i (ap lines (drop_more text i 0 lt) ∙ rw (eq-eqb _ _ feed) refl) seen)
+lines_cut text i lt feed seen =
+    rw (take_more text i 0 lt)
+    (cuts_here (lines text) lines lines text (get_or text i 0 ∷ []) i (ap lines (drop_more text i 0 lt) ∙ rw (eq-eqb _ _ feed) refl) seen)
 
 -- ---- lines with those that go on with them
 
@@ -45,7 +47,9 @@ folded_on text i lt other = cuts_on (folded_lines text) folded_lines folded_line
 
 pub folded_cut : (text : List ℕ) (i : ℕ) → i < length text → is_cut_at text i ≡ true → Cuts (folded_lines text) folded_lines text i
     → folded_lines text ≡ take (i + 1) text ∷ folded_lines (drop (i + 1) text)
-folded_cut text i lt cut seen = rw (take_more text i 0 lt) (cuts_here (folded_lines text) folded_lines folded_lines text (get_or text i 0 ∷ []) i (ap folded_lines (drop_more text i 0 lt) ∙ rw cut refl) seen)
+folded_cut text i lt cut seen =
+    rw (take_more text i 0 lt)
+    (cuts_here (folded_lines text) folded_lines folded_lines text (get_or text i 0 ∷ []) i (ap folded_lines (drop_more text i 0 lt) ∙ rw cut refl) seen)
 
 -- ---- joined again
 

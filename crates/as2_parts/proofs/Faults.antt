@@ -61,7 +61,8 @@ first_fault boundary ls (mark ∷ rest) found =
       | inr plain ↦
           let any : list_any (is_closing boundary) ls ≡ list_any (is_closing boundary) rest = closing_after boundary ls mark rest found ∙ rw plain refl in
           elim (cases_Bool (list_any (is_closing boundary) rest)) [
-            | inl closed ↦ rw (counts boundary ls mark rest found plain, any, plain, closed) (second_fault boundary (part_of (before_mark boundary rest)) rest (from_mark boundary rest) refl)
+            | inl closed ↦ rw (counts boundary ls mark rest found plain, any, plain, closed)
+                (second_fault boundary (part_of (before_mark boundary rest)) rest (from_mark boundary rest) refl)
             | inr none ↦ rw (counts boundary ls mark rest found plain, any, plain, none, not_zero (delimiters boundary rest)) refl
           ]
     ]

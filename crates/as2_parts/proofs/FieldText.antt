@@ -73,7 +73,8 @@ behind_colon name raw = sym (drop-drop 1 (length name) (name ++ 58 ∷ raw)) ∙
 
 pub field_again : (line : List ℕ) (field : FieldText) → IsField line field → folded_field line ≡ Some field
 field_again line field f =
-    let place : position is_colon line ≡ Some (length field.0) = ap (position is_colon) f.whole ∙ position_from-zero is_colon (field.0 ++ 58 ∷ f.raw) ∙ first_colon 0 field.0 f.raw f.named ∙ ap (λ (n : ℕ). Some n) (omega arith) in
+    let place : position is_colon line ≡ Some (length field.0) = ap (position is_colon) f.whole
+    ∙ position_from-zero is_colon (field.0 ++ 58 ∷ f.raw) ∙ first_colon 0 field.0 f.raw f.named ∙ ap (λ (n : ℕ). Some n) (omega arith) in
     let name : take (length field.0) line ≡ field.0 = ap (take (length field.0)) f.whole ∙ take_at field.0 (58 ∷ f.raw) (length field.0) refl in
     let raw : drop (length field.0 + 1) line ≡ f.raw = ap (drop (length field.0 + 1)) f.whole ∙ behind_colon field.0 f.raw in
     let may : is_field_name field.0 ≡ true = and_from (nat_lt 0 (length field.0)) (list_all is_field_name_byte field.0) (some_length field.0 f.some) f.named in

@@ -45,7 +45,8 @@ group_each [] = All-nil IsFolded
 group_each (line ∷ rest) =
     elim (cases_Bool (begins_with_blank line)) [
       | inl blank ↦ rw blank (group_each rest)
-      | inr first ↦ rw first (All-cons IsFolded (record { line = line; more = (group rest).0 }) (group rest).1 (not_from_false (begins_with_blank line) first, group_loose rest) (group_each rest))
+      | inr first ↦ rw first (All-cons IsFolded (record { line = line; more = (group rest).0 }) (group rest).1
+          (not_from_false (begins_with_blank line) first, group_loose rest) (group_each rest))
     ]
 
 group_front : (loose : List (List ℕ)) (rest : List (List ℕ)) (groups : List FoldedLine) → GoOn loose → group rest ≡ ([], groups)
@@ -118,7 +119,8 @@ fields_joined [] = refl
 fields_joined (line ∷ rest) =
     elim (cases_Bool (begins_with_blank line)) [
       | inl blank ↦
-          let none : folded_field (line ++ concat (group rest).0) ≡ None = blank_no_field (line ++ concat (group rest).0) (blank_longer line (concat (group rest).0) blank) in
+          let none : folded_field (line ++ concat (group rest).0) ≡ None =
+          blank_no_field (line ++ concat (group rest).0) (blank_longer line (concat (group rest).0) blank) in
           rw (none, blank) refl
       | inr first ↦ rw first refl
     ]
@@ -152,5 +154,6 @@ fields_found text = record {
 
 pub fields_only : (text : List ℕ) (given : List FieldText) → HasFields text given → fields text ≡ given
 fields_only text given h =
-    let same : group (lines text) ≡ (h.loose, h.groups) = ap group h.whole ∙ group_front h.loose (flat_map lines_of h.groups) h.groups h.loose_go_on (group_again h.groups h.each) in
+    let same : group (lines text) ≡ (h.loose, h.groups) = ap group h.whole
+    ∙ group_front h.loose (flat_map lines_of h.groups) h.groups h.loose_go_on (group_again h.groups h.each) in
     fields_are text ∙ ap (λ (g : Groups). filter_map folded_field (joined g.1)) same ∙ holds_again h.groups given h.fields_are

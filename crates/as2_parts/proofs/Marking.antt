@@ -17,11 +17,13 @@ pub unmarked_on : (boundary text : List ℕ) (place : ℕ) (rest line after : Li
     → rest ≡ line ++ after → Unmarked boundary text place rest → Unmarked boundary text (place + length line) after
 unmarked_on boundary text place rest line after plain cut whole u =
     let others = concat (before_mark boundary (lines after)) in
-    let here : concat (before_mark boundary (lines rest)) ≡ line ++ others = ap (λ (ls : List (List ℕ)). concat (before_mark boundary ls)) cut ∙ rw plain refl in
+    let here : concat (before_mark boundary (lines rest)) ≡ line ++ others = ap (λ (ls : List (List ℕ)). concat (before_mark boundary ls)) cut
+    ∙ rw plain refl in
     record {
       stands = stands_on text rest line after place u.stands whole;
       same = u.same ∙ ap (from_mark boundary) cut ∙ rw plain refl;
-      front = u.front ∙ ap (λ (t : List ℕ). take place text ++ t) here ∙ sym (append_assoc (take place text) line others) ∙ ap (λ (t : List ℕ). t ++ others) (sym (front_on text rest line after place u.stands whole));
+      front = u.front ∙ ap (λ (t : List ℕ). take place text ++ t) here ∙ sym (append_assoc (take place text) line others)
+          ∙ ap (λ (t : List ℕ). t ++ others) (sym (front_on text rest line after place u.stands whole));
     }
 
 -- what was seen of a part before its first empty line
@@ -37,7 +39,8 @@ head_on text place rest line after some cut whole h =
     let here : (part_in rest).0 ≡ line ++ others = ap (λ (ls : List (List ℕ)). (cut_at_empty_line ls).0) cut ∙ rw some refl in
     record {
       stands = stands_on text rest line after place h.stands whole;
-      head = h.head ∙ ap (λ (t : List ℕ). take place text ++ t) here ∙ sym (append_assoc (take place text) line others) ∙ ap (λ (t : List ℕ). t ++ others) (sym (front_on text rest line after place h.stands whole));
+      head = h.head ∙ ap (λ (t : List ℕ). take place text ++ t) here ∙ sym (append_assoc (take place text) line others)
+          ∙ ap (λ (t : List ℕ). t ++ others) (sym (front_on text rest line after place h.stands whole));
       content = h.content ∙ ap (λ (ls : List (List ℕ)). (cut_at_empty_line ls).1) cut ∙ rw some refl;
     }
 

@@ -8,7 +8,8 @@ pub record StandsAt (text : List ℕ) (place : ℕ) (rest : List ℕ) : Type 0 w
   pub is : drop place text ≡ rest
 
 put_together : (text : List ℕ) (place : ℕ) (line after : List ℕ) → drop place text ≡ line ++ after → text ≡ (take place text ++ line) ++ after
-put_together text place line after e = sym (take-append-drop place text) ∙ ap (λ (t : List ℕ). take place text ++ t) e ∙ sym (append_assoc (take place text) line after)
+put_together text place line after e = sym (take-append-drop place text) ∙ ap (λ (t : List ℕ). take place text ++ t) e
+    ∙ sym (append_assoc (take place text) line after)
 
 front_length : (text : List ℕ) (place : ℕ) (line : List ℕ) → place ≤ length text → length (take place text ++ line) ≡ place + length line
 front_length text place line le = omega (arith, length-append (take place text) line, length-take-le place text le)
@@ -16,7 +17,8 @@ front_length text place line le = omega (arith, length-append (take place text) 
 pub front_on : (text rest line after : List ℕ) (place : ℕ) → StandsAt text place rest → rest ≡ line ++ after
     → take (place + length line) text ≡ take place text ++ line
 front_on text rest line after place s e =
-    ap (take (place + length line)) (put_together text place line after (s.is ∙ e)) ∙ take_at (take place text ++ line) after (place + length line) (front_length text place line s.within)
+    ap (take (place + length line)) (put_together text place line after (s.is ∙ e))
+    ∙ take_at (take place text ++ line) after (place + length line) (front_length text place line s.within)
 
 pub stands_on : (text rest line after : List ℕ) (place : ℕ) → StandsAt text place rest → rest ≡ line ++ after → StandsAt text (place + length line) after
 stands_on text rest line after place s e =

@@ -35,12 +35,14 @@ reads_unclosed boundary body opening after o none = rw (o.found, o.opens, none) 
 pub reads_one : (boundary body opening : List ℕ) (after : List (List ℕ)) (closing : List ℕ) (rest : List (List ℕ)) → HasDelimiter boundary body opening after
     → from_mark boundary after ≡ closing ∷ rest → is_closing boundary closing ≡ true → Err OnePart ≡ parts_reading boundary body
 reads_one boundary body opening after closing rest o found closes =
-    let any : list_any (is_closing boundary) after ≡ true = closing_after boundary after closing rest found ∙ or_left (is_closing boundary closing) (list_any (is_closing boundary) rest) closes in
+    let any : list_any (is_closing boundary) after ≡ true = closing_after boundary after closing rest found
+    ∙ or_left (is_closing boundary closing) (list_any (is_closing boundary) rest) closes in
     rw (o.found, o.opens, any, found, closes) refl
 
 pub reads_two : (boundary body opening : List ℕ) (after : List (List ℕ)) (between : List ℕ) (rest : List (List ℕ)) → HasDelimiter boundary body opening after
     → from_mark boundary after ≡ between ∷ rest → is_closing boundary between ≡ false → list_any (is_closing boundary) rest ≡ true
     → Ok (part_of (before_mark boundary after), part_of (before_mark boundary rest)) ≡ parts_reading boundary body
 reads_two boundary body opening after between rest o found goes closed =
-    let any : list_any (is_closing boundary) after ≡ true = closing_after boundary after between rest found ∙ or_right (is_closing boundary between) (list_any (is_closing boundary) rest) closed in
+    let any : list_any (is_closing boundary) after ≡ true = closing_after boundary after between rest found
+    ∙ or_right (is_closing boundary between) (list_any (is_closing boundary) rest) closed in
     rw (o.found, o.opens, any, found, goes) refl

@@ -27,7 +27,9 @@ plain_before boundary (line ∷ rest) =
     ]
 
 pub no_mark_before : (boundary : List ℕ) (ls : List (List ℕ)) → HasNoMark boundary (before_mark boundary ls)
-no_mark_before boundary ls = All-weaker (λ line. is_mark boundary line ≡ false) (λ line. ¬ IsMark boundary line) (λ line plain. plain_is boundary line plain) (before_mark boundary ls) (plain_before boundary ls)
+no_mark_before boundary ls =
+    All-weaker (λ line. is_mark boundary line ≡ false) (λ line. ¬ IsMark boundary line) (λ line plain. plain_is boundary line plain)
+    (before_mark boundary ls) (plain_before boundary ls)
 
 -- the lines are cut at a mark
 pub record Cut (boundary : List ℕ) (ls : List (List ℕ)) (mark : List ℕ) (after : List (List ℕ)) : Type 0 where
@@ -61,7 +63,8 @@ before_mark_at : (boundary : List ℕ) (front : List (List ℕ)) (mark : List �
 before_mark_at boundary [] mark after plain marks = rw marks refl
 before_mark_at boundary (line ∷ front) mark after plain marks =
     let here : is_mark boundary line ≡ false = All-head (λ line. is_mark boundary line ≡ false) line front plain in
-    rw here (ap (λ (ls : List (List ℕ)). line ∷ ls) (before_mark_at boundary front mark after (All-tail (λ line. is_mark boundary line ≡ false) line front plain) marks))
+    rw here (ap (λ (ls : List (List ℕ)). line ∷ ls)
+    (before_mark_at boundary front mark after (All-tail (λ line. is_mark boundary line ≡ false) line front plain) marks))
 
 -- ---- what is read
 
@@ -95,7 +98,8 @@ reads_second : (boundary : List ℕ) (ls : List (List ℕ)) (opening : List ℕ)
     → TwoPartsRead boundary ls first second
 reads_second boundary ls opening after [] first second starts opens closed found e = absurd cc
 reads_second boundary ls opening after (mark ∷ rest) first second starts opens closed found e =
-    let c = without_fault (is_closing boundary mark) OnePart (Ok (part_of (before_mark boundary after), part_of (before_mark boundary rest))) (first, second) e in
+    let c = without_fault (is_closing boundary mark) OnePart (Ok (part_of (before_mark boundary after), part_of (before_mark boundary rest)))
+    (first, second) e in
     let same : (part_of (before_mark boundary after), part_of (before_mark boundary rest)) ≡ (first, second) = cc c.1 in
     record {
       opening = opening;
@@ -151,7 +155,8 @@ found boundary body first second e =
     let closed = closed_behind boundary r.after r.between r.rest r.goes_on r.parts r.closed in
     let k = ends_by boundary (from_mark boundary r.rest) closed in
     let c = cut_from boundary r.rest k.0 k.1 k.2 in
-    let behind : r.after ≡ before_mark boundary r.after ++ r.between ∷ (before_mark boundary r.rest ++ k.0 ∷ k.1) = b.whole ∙ ap (λ (ls : List (List ℕ)). before_mark boundary r.after ++ r.between ∷ ls) c.whole in
+    let behind : r.after ≡ before_mark boundary r.after ++ r.between ∷ (before_mark boundary r.rest ++ k.0 ∷ k.1) = b.whole
+    ∙ ap (λ (ls : List (List ℕ)). before_mark boundary r.after ++ r.between ∷ ls) c.whole in
     record {
       preamble = before_mark boundary (lines body);
       opening = r.opening;
@@ -195,10 +200,14 @@ again boundary body first second t =
       opens = delimiter_opens boundary t.opening (is_delimiter_of boundary t.opening t.opens);
     } in
     let goes = from_mark_at boundary t.first_lines t.between rest plain_first between_marks in
-    let closed = closing_after boundary rest t.next t.rest (from_mark_at boundary t.second_lines t.next t.rest plain_second next_marks) ∙ closes boundary (t.next ∷ t.rest) t.closed in
-    let one : part_of (before_mark boundary after) ≡ first = ap part_of (before_mark_at boundary t.first_lines t.between rest plain_first between_marks) ∙ sym t.first_part in
-    let two : part_of (before_mark boundary rest) ≡ second = ap part_of (before_mark_at boundary t.second_lines t.next t.rest plain_second next_marks) ∙ sym t.second_part in
-    sym (reads_two boundary body t.opening after t.between rest opens goes (delimiter_opens boundary t.between (is_delimiter_of boundary t.between t.parts)) closed) ∙ (λ i. Ok (one i, two i))
+    let closed = closing_after boundary rest t.next t.rest (from_mark_at boundary t.second_lines t.next t.rest plain_second next_marks)
+    ∙ closes boundary (t.next ∷ t.rest) t.closed in
+    let one : part_of (before_mark boundary after) ≡ first =
+    ap part_of (before_mark_at boundary t.first_lines t.between rest plain_first between_marks) ∙ sym t.first_part in
+    let two : part_of (before_mark boundary rest) ≡ second =
+    ap part_of (before_mark_at boundary t.second_lines t.next t.rest plain_second next_marks) ∙ sym t.second_part in
+    sym (reads_two boundary body t.opening after t.between rest opens goes
+    (delimiter_opens boundary t.between (is_delimiter_of boundary t.between t.parts)) closed) ∙ (λ i. Ok (one i, two i))
 
 -- ---- the answer of the code
 

@@ -10,8 +10,10 @@ use Rattle.as2_text.proofs.ReceiptRequests.{asks_found}
 says_once : (vs : List (List ℕ)) (delivery : How) (url : List ℕ × List ℕ) → SaysHow vs delivery → delivery ≡ how.Async url → (is_given_twice vs ≡ false)
     × IsTrue (is_some (url_of (text_of vs)))
 says_once vs delivery url (inl says) is = absurd cc
-says_once vs delivery url (inr says) is =
-    (ap is_given_twice says.2, subst (λ l. IsTrue (is_some (url_of (text_of l)))) (sym says.2) (subst (λ o. IsTrue (is_some o)) (sym (url_again says.0 says.1 says.3)) refl))
+says_once vs delivery url (inr says) is = (
+  ap is_given_twice says.2,
+  subst (λ l. IsTrue (is_some (url_of (text_of l)))) (sym says.2) (subst (λ o. IsTrue (is_some o)) (sym (url_again says.0 says.1 says.3)) refl),
+)
 
 -- it is given once, and is one
 pub asked_address : (head : Fields) (request : Request) (url : List ℕ × List ℕ) → request_reading head ≡ Ok request → request.how ≡ how.Async url

@@ -20,7 +20,8 @@ four t a b c d = ap (λ l. (l ++ c) ++ d) (append_assoc t a b) ∙ ap (λ l. l +
 joined : (A : Agreements) (p : Partner) (organization id content : Text)
     → name_fields p organization id ++ content_fields A p content ≡ document_fields A p organization id content
 joined A p organization id content =
-    sym (four (name_fields p organization id) (crlf_line (codes "Content-Type: ") p.content_type) (codes "Content-Transfer-Encoding: binary\r\n") (asking_fields p.receipt A p) (crlf_line (codes "Content-Length: ") (decimal (length content))))
+    sym (four (name_fields p organization id) (crlf_line (codes "Content-Type: ") p.content_type) (codes "Content-Transfer-Encoding: binary\r\n")
+    (asking_fields p.receipt A p) (crlf_line (codes "Content-Length: ") (decimal (length content))))
 
 -- the address is the partner's
 pub same_request : (A : Agreements) (p : Partner) (organization id content : Text) (address : Text × Text) → url_of p.url ≡ Some address
@@ -28,8 +29,13 @@ pub same_request : (A : Agreements) (p : Partner) (organization id content : Tex
 same_request A p organization id content address is =
     let there : address_or_nothing (Some address) ≡ address_of p.url = ap address_or_nothing (sym is) in
     ap (λ (text : Text). record { authority = authority_of address; bytes = text ++ codes "\r\n" ++ content })
-    (append_assoc (request_opening address) (name_fields p organization id) (content_fields A p content) ∙ ap (λ l. request_opening address ++ l) (joined A p organization id content))
-    ∙ ap (λ (a : Text × Text). record { authority = authority_of a; bytes = request_opening a ++ document_fields A p organization id content ++ codes "\r\n" ++ content }) there
+    (append_assoc (request_opening address) (name_fields p organization id) (content_fields A p content)
+    ∙ ap (λ l. request_opening address ++ l) (joined A p organization id content))
+    ∙ ap (λ (a : Text × Text). record {
+      authority = authority_of a;
+      bytes = request_opening a ++ document_fields A p organization id content
+          ++ codes "\r\n" ++ content;
+    }) there
 
 -- the address is the one that was named
 pub same_receipt : (out : ReceiptOut) (url : Text) (address : Text × Text) → url_of url ≡ Some address → receipt_to address out ≡ receipt_request url out

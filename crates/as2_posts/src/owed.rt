@@ -1,15 +1,15 @@
 //! Receipts that are sent by a request of their own (RFC 4130, section 7.3; RFC 9112, section 3).
-ghost use Rattle.std.specs.Prelude.{◌≡◌, ◌⊎◌, IfOk, IfErr};
+ghost use Rattle.std.specs.Prelude.{◌≡◌, IfOk};
 ghost use Rattle.as2_text.specs.Addresses.{IsAuthority};
 ghost use Rattle.as2_exchange.specs.Readings.{receipt_job};
 ghost use Rattle.as2_exchange.specs.Recording.{receipt_out};
-ghost use Rattle.as2_exchange.specs.declared.fault.StoreFault.TheVariants as fault;
+ghost use Rattle.as2_exchange.specs.declared.inbox.ReceiptDelivery.TheVariants as delivery;
 ghost use Rattle.as2_posts.specs.Sending.{receipt_to};
 
 use crate::answering::receipt_out;
 use crate::sending::{HEAD, add_opening, add_text};
 use as2_agreement::Agreements;
-use as2_exchange::{Bytes, Job, Posted, ReceiptDelivery, StoreFault};
+use as2_exchange::{Address, Bytes, Job, Posted};
 use as2_mdn::{write_head_fields, write_receipt};
 use as2_text::{Memory, Url};
 use std::alloc::Global;
@@ -38,24 +38,21 @@ fn job_to(
     })
 }
 
-/// The request that carries the receipt of that number for a document, to the address that was named with it. Refused where
-/// none was.
+/// The request that carries the receipt of that number for a document, to this address, which was named with it.
 #[tactic(auto, unfolding(as2_exchange::specs::Readings::receipt_job))]
 pub fn receipt_job(
     alloc: Global,
     agreements: &Agreements,
     number: u64,
     posted: &Posted,
-) -> Result<Job, StoreFault>
-    ensures job { IfOk result (λ job. job ≡ receipt_job posted.now.how (receipt_out agreements.now number posted.now)) }
+    address: &Address,
+) -> Result<Job, Memory>
+    ensures job { IfOk result (λ job. job
+        ≡ receipt_job (delivery.Async address.now) (receipt_out agreements.now number posted.now)) }
     ensures address { IfOk result (λ job. IsAuthority job.authority) }
-    ensures fault { IfErr result (λ f. (f ≡ fault.Memory) ⊎ (f ≡ fault.Refused)) }
 {
-    let ReceiptDelivery::Async(address) = &posted.how else {
-        return Err(StoreFault::Refused);
-    };
     let Some(url) = Url::parse(address.as_slice()) else {
-        return Err(StoreFault::Refused);
+        unreachable!()
     };
     let job = job_to(alloc, &url, agreements, number, posted)?;
     Ok(job)

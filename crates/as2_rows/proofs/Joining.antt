@@ -74,7 +74,8 @@ pub piece_here : (rows : List Row) (n size : ℕ) (c content : List ℕ) (i : �
     → i < length rows
     → get_or rows i d ≡ piece_shown (record { number = n; position = piece_count content; bytes = piece_bytes c i })
 piece_here rows n size c content i d h all within =
-    piece_at_place rows n c i d all within ∙ ap (λ k. piece_shown (record { number = n; position = k; bytes = piece_bytes c i })) (sym (count_is content size i h.long h.needed))
+    piece_at_place rows n c i d all within
+    ∙ ap (λ k. piece_shown (record { number = n; position = k; bytes = piece_bytes c i })) (sym (count_is content size i h.long h.needed))
 
 pub joined_none : (rows : List Row) (n size : ℕ) → Joined rows n size [] 0
 joined_none rows n size = record {
@@ -92,7 +93,8 @@ same_before content more i k long before =
 -- the piece behind whole ones
 last_one : (content more : List ℕ) (i : ℕ) → length content ≡ i * piece_size → length more ≤ piece_size → piece_bytes (content ++ more) i ≡ more
 last_one content more i long few =
-    ap (take piece_size) (drop-append-le (i * piece_size) content more (omega (arith, long)) ∙ ap (λ l. l ++ more) (drop_all (i * piece_size) content (omega (arith, long))))
+    ap (take piece_size) (drop-append-le (i * piece_size) content more (omega (arith, long))
+    ∙ ap (λ l. l ++ more) (drop_all (i * piece_size) content (omega (arith, long))))
     ∙ take_all piece_size more few
 
 pieces_more : (n : ℕ) (content more : List ℕ) (i : ℕ) → length content ≡ i * piece_size → 0 < length more → length more ≤ piece_size
@@ -104,7 +106,8 @@ pieces_more n content more i long some few =
     let was : piece_count content ≡ i = count_is content (length content) i (omega (arith, long)) (omega (arith, long)) in
     let before : map (piece_of n after) (range_with_len 0 i) ≡ map (piece_of n content) (range_with_len 0 i) =
     fill_by_all (piece_of n content) (map (piece_of n after) (range_with_len 0 i)) i (piece_of n after 0) (length-map-range_with_len (piece_of n after) 0 i)
-    (λ k less. get_or-map-range_with_len (piece_of n after) 0 i k k (piece_of n after 0) less (omega arith) ∙ ap (λ b. record { number = n; position = k; bytes = b }) (same_before content more i k long less)) in
+    (λ k less. get_or-map-range_with_len (piece_of n after) 0 i k k (piece_of n after 0) less (omega arith)
+    ∙ ap (λ b. record { number = n; position = k; bytes = b }) (same_before content more i k long less)) in
     ap (λ k. map (piece_of n after) (range_with_len 0 k)) now
     ∙ map-range_with_len_more (piece_of n after) 0 i i (omega arith)
     ∙ ap₂ (λ l b. l ++ (record { number = n; position = i; bytes = b }) ∷ []) before (last_one content more i long few)
@@ -119,7 +122,8 @@ joined_more rows n size content more i d h within row some long =
     record {
       shown = take_more rows i d within
           ∙ ap₂ (λ l r. l ++ r ∷ []) h.shown row
-          ∙ sym (ap (map piece_shown) (pieces_more n content more i whole_ones some (omega (arith, long))) ∙ map-append piece_shown (pieces n content) ((record { number = n; position = i; bytes = more }) ∷ []));
+          ∙ sym (ap (map piece_shown) (pieces_more n content more i whole_ones some (omega (arith, long)))
+          ∙ map-append piece_shown (pieces n content) ((record { number = n; position = i; bytes = more }) ∷ []));
       long = omega (arith, both, whole_ones, long, some);
       needed = omega (arith, whole_ones, long, some);
     }

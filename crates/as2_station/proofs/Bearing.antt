@@ -26,4 +26,5 @@ bears_exactly r organization partner id = (there, back)
         ((bytes_eq-Decides organization r.to).0 t.0, (bytes_eq-Decides partner r.from).0 t.1, (bytes_eq-Decides (value_of id) (named_by r.receipt)).0 t.2)
 
     back : (organization ≡ r.to) × (partner ≡ r.from) × (value_of id ≡ named_by r.receipt) → bears r organization partner id ≡ true
-    back h = and_all _ _ _ ((bytes_eq-Decides organization r.to).1 h.0) ((bytes_eq-Decides partner r.from).1 h.1) ((bytes_eq-Decides (value_of id) (named_by r.receipt)).1 h.2)
+    back h = and_all _ _ _ ((bytes_eq-Decides organization r.to).1 h.0) ((bytes_eq-Decides partner r.from).1 h.1)
+        ((bytes_eq-Decides (value_of id) (named_by r.receipt)).1 h.2)

@@ -51,14 +51,24 @@ module _ (A : Agreements) (m : ℕ) (d : OutEntry) where
   pub no_try : (p : Partner) (reason : Refusal) → agreed_partner A d.organization d.partner ≡ Ok p → try_refusal p d m ≡ Some reason
       → begun_document A m d ≡ (Refused reason, d)
   unfolding begun_document
-  no_try p reason known is = acts_agreed A d.organization d.partner d _ p known ∙ refused_by (is_settled d) (nat_le p.max_tries d.tries) (waits d.detail || is_early m d.due) d _ reason is
+  no_try p reason known is = acts_agreed A d.organization d.partner d _ p known
+      ∙ refused_by (is_settled d) (nat_le p.max_tries d.tries) (waits d.detail || is_early m d.due) d _ reason is
 
   pub a_try : (p : Partner) → agreed_partner A d.organization d.partner ≡ Ok p → try_refusal p d m ≡ None
       → begun_document A m d ≡ (AJob (document_job A p d.organization d.id d.content), come_to (progress_after_try p d m) d)
   unfolding begun_document
   a_try p known is =
       acts_agreed A d.organization d.partner d _ p known ∙ begins_by (is_settled d) (nat_le p.max_tries d.tries) (waits d.detail || is_early m d.due) d _ is
-      ∙ ap (λ (b : Bool). (AJob (document_job A p d.organization d.id d.content), record d { begun = b; tries = d.tries + 1; attempt = (progress_after_try p d m).attempt; due = (progress_after_try p d m).due; detail = (progress_after_try p d m).detail })) (sym (tried_begins d.begun d.tries))
+      ∙ ap (λ (b : Bool). (
+        AJob (document_job A p d.organization d.id d.content),
+        record d {
+          begun = b;
+          tries = d.tries + 1;
+          attempt = (progress_after_try p d m).attempt;
+          due = (progress_after_try p d m).due;
+          detail = (progress_after_try p d m).detail;
+        },
+      )) (sym (tried_begins d.begun d.tries))
 
 -- there are tries left
 pub tries_left : (p : Partner) (d : OutEntry) (m : ℕ) → try_refusal p d m ≡ None → nat_le p.max_tries d.tries ≡ false
@@ -75,6 +85,8 @@ pub begins : (A : Agreements) (m : ℕ) (s t : State) (d : OutEntry) (p : Partne
     → set_out_in d.number (progress_after_try p d m) s ≡ Some t
     → Some (on_document s d.number (begun_document A m)) ≡ Some (AJob (document_job A p d.organization d.id d.content), t)
 begins A m s t d p stands found known fine is =
-    let left : Some (change_document s d.number (come_to (progress_after_try p d m))) ≡ Some t = ap (option_map (λ _. change_document s d.number (come_to (progress_after_try p d m)))) (sym found) ∙ is in
+    let left : Some (change_document s d.number (come_to (progress_after_try p d m))) ≡ Some t =
+    ap (option_map (λ _. change_document s d.number (come_to (progress_after_try p d m)))) (sym found) ∙ is in
     let there : change_document s d.number (come_to (progress_after_try p d m)) ≡ t = cc in
-    ap Some (changes s d stands found (begun_document A m) (AJob (document_job A p d.organization d.id d.content)) (come_to (progress_after_try p d m)) (a_try A m d p known fine) ∙ ap (λ (x : State). (AJob (document_job A p d.organization d.id d.content), x)) there)
+    ap Some (changes s d stands found (begun_document A m) (AJob (document_job A p d.organization d.id d.content))
+    (come_to (progress_after_try p d m)) (a_try A m d p known fine) ∙ ap (λ (x : State). (AJob (document_job A p d.organization d.id d.content), x)) there)

@@ -58,9 +58,13 @@ success_by : (A : Agreements) (v : Version) (first : ℕ) (trace : Trace) (s : S
     × ReceivedReceipt). Confirms r.1.known r.1.receipt it.0.content))
 unfolding concerns
 success_by A v first trace s run k None None is known = (λ h. absurd h, λ h. absurd h)
-success_by A v first trace s run k (Some d) None is known = absurd (let none : Some (history_of d) ≡ None = sym (ap (option_map history_of) is) ∙ law A v first trace s run k ∙ ap (λ (c : Option (Submission × List Fact)). option_and_then (λ (x : Submission × List Fact). option_map (history_by A k x.0 x.1) (partner_of A x.0.partner)) c) known in cc)
+success_by A v first trace s run k (Some d) None is known =
+    absurd (let none : Some (history_of d) ≡ None = sym (ap (option_map history_of) is) ∙ law A v first trace s run k
+    ∙ ap (λ (c : Option (Submission × List Fact)). option_and_then
+    (λ (x : Submission × List Fact). option_map (history_by A k x.0 x.1) (partner_of A x.0.partner)) c) known in cc)
 success_by A v first trace s run k None (Some it) is known =
-    absurd (found_by_both (first_of (submission k) (accepted_events v trace)) _ it known (sym (as_submitted A v first trace s run k) ∙ ap (option_map submission_of) is))
+    absurd (found_by_both (first_of (submission k) (accepted_events v trace)) _ it known
+    (sym (as_submitted A v first trace s run k) ∙ ap (option_map submission_of) is))
 success_by A v first trace s run k (Some d) (Some it) is known =
     let state = state_of_success d.detail in
     let by = success_confirmed A v first trace s run k d is it.0 it.1 known in
@@ -99,7 +103,8 @@ stands_by_history A v first trace s counter run = record {
 }
 
 pub ends_by_history : (A : Agreements) (s : State) (trace : Trace) (t : State) → Run A s trace t → EndsByHistory A s trace t
-ends_by_history A s trace t run v first before counter came = stands_by_history A v first (before ++ trace) t counter (run_then A (empty v first) s t before trace came run)
+ends_by_history A s trace t run v first before counter came =
+    stands_by_history A v first (before ++ trace) t counter (run_then A (empty v first) s t before trace came run)
 
 -- ---- an event
 

@@ -44,8 +44,18 @@ module _ (p : Partner) (m : ℕ) (d : OutEntry) where
     where
       by : (last : Bool)
           → ◌≡◌ {A = Answer
-          × OutEntry} (TryFailed, further (if last then record { tries = d.tries; attempt = Idle; due = None; detail = TriesUsed } else record { tries = d.tries; attempt = Idle; due = Some (m + p.retry_seconds); detail = Retry }) d)
-          (if last then (TryFailed, record d { attempt = Idle; due = None; detail = TriesUsed }) else (TryFailed, record d { attempt = Idle; due = Some (m + p.retry_seconds); detail = Retry }))
+          × OutEntry} (
+            TryFailed,
+            further
+                (if last then record { tries = d.tries; attempt = Idle; due = None; detail = TriesUsed } else record {
+                  tries = d.tries;
+                  attempt = Idle;
+                  due = Some (m + p.retry_seconds);
+                  detail = Retry;
+                }) d,
+          )
+          (if last then (TryFailed, record d { attempt = Idle; due = None; detail = TriesUsed }) else
+          (TryFailed, record d { attempt = Idle; due = Some (m + p.retry_seconds); detail = Retry }))
       by true = refl
       by false = refl
 
@@ -62,7 +72,8 @@ module _ (p : Partner) (m : ℕ) (d : OutEntry) where
   fails_unsettled = by (is_last d.attempt)
     where
       tried : Bool → Answer × OutEntry
-      tried last = if last then (TryFailed, record d { attempt = Idle; due = None; detail = TriesUsed }) else (TryFailed, record d { attempt = Idle; due = Some (m + p.retry_seconds); detail = Retry })
+      tried last = if last then (TryFailed, record d { attempt = Idle; due = None; detail = TriesUsed }) else
+          (TryFailed, record d { attempt = Idle; due = Some (m + p.retry_seconds); detail = Retry })
 
       by : (last : Bool) → IsUnsettled (tried last).0 (tried last).1
       by true = refl
@@ -128,12 +139,15 @@ module _ (s t : State) (d : OutEntry) (found : document s d.number ≡ Some d) w
   acts_on : (act : OutEntry → Answer × OutEntry) (a : Answer) (change : OutEntry → OutEntry) → ((e : OutEntry) → act e ≡ (a, change e))
       → change_document s d.number change ≡ t → on_document s d.number act ≡ (a, t)
   acts_on act a change is left =
-      ap (act_on s d.number act) found ∙ ap (λ (f : OutEntry → Answer × OutEntry). ((f d).0, change_document s d.number (λ e. (f e).1))) (λ i e. is e i) ∙ ap (λ (x : State). (a, x)) left
+      ap (act_on s d.number act) found
+      ∙ ap (λ (f : OutEntry → Answer × OutEntry). ((f d).0, change_document s d.number (λ e. (f e).1))) (λ i e. is e i) ∙ ap (λ (x : State). (a, x)) left
 
   -- the receipt settles it
   pub ends_by_receipt : (detail : Detail) (evidence : Evidence) → settled_in d.number detail evidence s ≡ Some t
       → Some (on_document s d.number (ended_document (ending.ByReceipt detail evidence))) ≡ Some (Settled detail, t)
-  ends_by_receipt detail evidence is = ap Some (acts_on _ (Settled detail) (settled_as detail evidence) (λ e. refl) (by (option_map_or is_settled (document s d.number) true || not (is_by_receipt detail)) is))
+  ends_by_receipt detail evidence is =
+      ap Some (acts_on _ (Settled detail) (settled_as detail evidence) (λ e. refl)
+      (by (option_map_or is_settled (document s d.number) true || not (is_by_receipt detail)) is))
     where
       by : (refused : Bool) → (if refused then None else Some (change_document s d.number (settled_as detail evidence))) ≡ Some t
           → change_document s d.number (settled_as detail evidence) ≡ t
@@ -142,12 +156,15 @@ module _ (s t : State) (d : OutEntry) (found : document s d.number ≡ Some d) w
 
   -- once it is begun, it is so wherever it comes to
   still_begun : (p : Progress) → d.begun ≡ true → further p d ≡ come_to p d
-  still_begun p begun = ap (λ (b : Bool). record d { begun = b; tries = p.tries; attempt = p.attempt; due = p.due; detail = p.detail }) (begun ∙ sym (ap (λ (b : Bool). b || nat_le 1 p.tries) begun))
+  still_begun p begun = ap (λ (b : Bool). record d { begun = b; tries = p.tries; attempt = p.attempt; due = p.due; detail = p.detail })
+      (begun ∙ sym (ap (λ (b : Bool). b || nat_le 1 p.tries) begun))
 
   -- it comes so far
   pub ends_at : IsCounted s → d.begun ≡ true → (act : OutEntry → Answer × OutEntry) (a : Answer) (progress : Progress) → act d ≡ (a, further progress d)
       → set_out_in d.number progress s ≡ Some t → Some (on_document s d.number act) ≡ Some (a, t)
   ends_at stands begun act a progress acts is =
-      let left : Some (change_document s d.number (come_to progress)) ≡ Some t = ap (option_map (λ _. change_document s d.number (come_to progress))) (sym found) ∙ is in
+      let left : Some (change_document s d.number (come_to progress)) ≡ Some t =
+      ap (option_map (λ _. change_document s d.number (come_to progress))) (sym found) ∙ is in
       let there : change_document s d.number (come_to progress) ≡ t = cc in
-      ap Some (changes s d stands found act a (come_to progress) (acts ∙ ap (λ (e : OutEntry). (a, e)) (still_begun progress begun)) ∙ ap (λ (x : State). (a, x)) there)
+      ap Some (changes s d stands found act a (come_to progress) (acts ∙ ap (λ (e : OutEntry). (a, e)) (still_begun progress begun))
+      ∙ ap (λ (x : State). (a, x)) there)

@@ -27,12 +27,18 @@ pub as_machine : {M : Medium} {A : Type 0} (machine other : Machine) (given know
 as_machine {M = M} machine other given known asks told old new r opened same it = record {
   clean = it.clean;
   is_open = it.is_open;
-  answered = λ clean. IfOk-weaker r _ _ (λ a left s rests is. let to = same s (old.counted (opened (it.clean clean)) s rests) is in subst (λ came. LeavesAnswered new came (told a)) to.1 (left s rests to.0)) (it.answered clean);
-  failed = λ clean. IfErr-weaker r _ _ (λ f left s rests is. let to = same s (old.counted (opened (it.clean clean)) s rests) is in subst (λ came. new.Rests s × (f ≡ Full → came ≡ None)) to.1 (left s rests to.0)) (it.failed clean);
+  answered = λ clean. IfOk-weaker r _ _
+      (λ a left s rests is. let to = same s (old.counted (opened (it.clean clean)) s rests) is in subst
+      (λ came. LeavesAnswered new came (told a)) to.1 (left s rests to.0)) (it.answered clean);
+  failed = λ clean. IfErr-weaker r _ _
+      (λ f left s rests is. let to = same s (old.counted (opened (it.clean clean)) s rests) is in subst
+      (λ came. new.Rests s × (f ≡ Full → came ≡ None)) to.1 (left s rests to.0)) (it.failed clean);
   fault = it.fault;
   crash = survives_weaker old new (MayLeave other known old) (MayLeave machine given old) (λ clean left may. record {
     was_open = may.was_open;
-    stands = λ s rests is. let to = same s (old.counted may.was_open s rests) is in subst (λ came. M.keeps left s ⊎ KeepsNext M left (option_map (λ (x : Answer × State). x.1) came)) to.1 (may.stands s rests to.0);
+    stands = λ s rests is. let to =
+        same s (old.counted may.was_open s rests) is in subst
+        (λ came. M.keeps left s ⊎ KeepsNext M left (option_map (λ (x : Answer × State). x.1) came)) to.1 (may.stands s rests to.0);
   }) it.crash;
 }
 
@@ -43,18 +49,23 @@ pub by_state : {M : Medium} {A : Type 0} (machine : Digests → Machine) (given 
 by_state {M = M} machine given asks told old new r it = record {
   clean = it.clean;
   is_open = it.is_open;
-  answered = λ clean. IfOk-weaker r _ _ (λ a left s rests is. subst (λ k. LeavesAnswered new (machine k s) (told a)) (sym (old.knows s rests)) (left s rests is)) (it.answered clean);
-  failed = λ clean. IfErr-weaker r _ _ (λ f left s rests is. subst (λ k. new.Rests s × (f ≡ Full → machine k s ≡ None)) (sym (old.knows s rests)) (left s rests is)) (it.failed clean);
+  answered = λ clean. IfOk-weaker r _ _
+      (λ a left s rests is. subst (λ k. LeavesAnswered new (machine k s) (told a)) (sym (old.knows s rests)) (left s rests is)) (it.answered clean);
+  failed = λ clean. IfErr-weaker r _ _
+      (λ f left s rests is. subst (λ k. new.Rests s × (f ≡ Full → machine k s ≡ None)) (sym (old.knows s rests)) (left s rests is)) (it.failed clean);
   fault = it.fault;
-  crash = survives_weaker old new (MayLeave (machine AllDigests) given old) (MayLeave (λ s. machine (known_digests s.version) s) given old) (λ clean left may. record {
-    was_open = may.was_open;
-    stands = λ s rests is. subst (λ k. M.keeps left s ⊎ KeepsNext M left (option_map (λ (x : Answer × State). x.1) (machine k s))) (sym (old.knows s rests)) (may.stands s rests is);
-  }) it.crash;
+  crash = survives_weaker old new (MayLeave (machine AllDigests) given old) (MayLeave (λ s. machine (known_digests s.version) s) given old)
+      (λ clean left may. record {
+        was_open = may.was_open;
+        stands = λ s rests is. subst (λ k. M.keeps left s ⊎ KeepsNext M left (option_map (λ (x : Answer × State). x.1) (machine k s)))
+            (sym (old.knows s rests)) (may.stands s rests is);
+      }) it.crash;
 }
 
 -- what a write commits is what the machine leaves with this answer
 abbrev pub IsStep : Machine → (State → Type 0) → (State → Option State) → Answer → Type 0
-IsStep machine given wrote answer = (s t : State) → IsCounted s → given s → wrote s ≡ Some t → IsCounter t.next_in × IsCounter t.next_out → machine s ≡ Some (answer, t)
+IsStep machine given wrote answer = (s t : State) → IsCounted s → given s → wrote s ≡ Some t → IsCounter t.next_in × IsCounter t.next_out
+    → machine s ≡ Some (answer, t)
 
 module _ {M : Medium} {A : Type 0} (machine : Machine) (given : State → Type 0) (asks : Type 0) (told : A → Answer) where
   -- an answer that nothing of the store is read or written for
@@ -100,7 +111,8 @@ module _ {M : Medium} {A : Type 0} (machine : Machine) (given : State → Type 0
     answered = λ clean. tt;
     failed = λ clean s rests known. (it.same clean s rests, never_full f may);
     fault = inr may;
-    crash = survives_weaker old new (Commits Some old) (MayLeave machine given old) (λ clean left is. record { was_open = is.was_open; stands = λ s rests known. inl (next_kept M left s (is.stands s rests)) }) it.crash;
+    crash = survives_weaker old new (Commits Some old) (MayLeave machine given old)
+        (λ clean left is. record { was_open = is.was_open; stands = λ s rests known. inl (next_kept M left s (is.stands s rests)) }) it.crash;
   }
 
   -- what follows a read
@@ -110,8 +122,10 @@ module _ {M : Medium} {A : Type 0} (machine : Machine) (given : State → Type 0
   after_read fits given_then old mid new b r leads one two = record {
     clean = λ clean. one.clean (two.clean clean);
     is_open = two.is_open;
-    answered = λ clean. IfOk-weaker r _ _ (λ a left s rests known. left s (one.same (two.clean clean) s rests) (leads s known (one.answer (two.clean clean) s rests))) (two.answered clean);
-    failed = λ clean. IfErr-weaker r _ _ (λ f left s rests known. left s (one.same (two.clean clean) s rests) (leads s known (one.answer (two.clean clean) s rests))) (two.failed clean);
+    answered = λ clean. IfOk-weaker r _ _
+        (λ a left s rests known. left s (one.same (two.clean clean) s rests) (leads s known (one.answer (two.clean clean) s rests))) (two.answered clean);
+    failed = λ clean. IfErr-weaker r _ _
+        (λ f left s rests known. left s (one.same (two.clean clean) s rests) (leads s known (one.answer (two.clean clean) s rests))) (two.failed clean);
     fault = two.fault;
     crash = survives_then old mid new (Commits Some old) (MayLeave machine given_then mid) (MayLeave machine given old) two.clean
         (λ _ left is. record { was_open = is.was_open; stands = λ s rests known. inl (next_kept M left s (is.stands s rests)) })
@@ -127,7 +141,12 @@ module _ {M : Medium} {A : Type 0} (machine : Machine) (given : State → Type 0
     was_open = may.was_open;
     stands = λ s rests known.
         let to = may.stands s rests in
-        inr (record { state = to.state; is = rw (is s to.state (old.counted may.was_open s rests) known to.is (let stood = M.keeps_counted left to.state to.keeps in (stood.receipts.0, stood.documents.0))) refl; keeps = to.keeps });
+        inr (record {
+          state = to.state;
+          is = rw (is s to.state (old.counted may.was_open s rests) known to.is
+              (let stood = M.keeps_counted left to.state to.keeps in (stood.receipts.0, stood.documents.0))) refl;
+          keeps = to.keeps;
+        });
   })
 
   -- a write
@@ -138,7 +157,12 @@ module _ {M : Medium} {A : Type 0} (machine : Machine) (given : State → Type 0
     is_open = λ clean _. it.is_open clean;
     answered = λ clean s rests known.
         let to = it.done clean s rests in
-        record { next = to.state; step = is s to.state (old.counted (it.was_open clean) s rests) known to.is (let stood = new.counted (it.is_open clean) to.state to.rests in (stood.receipts.0, stood.documents.0)); rests = to.rests };
+        record {
+          next = to.state;
+          step = is s to.state (old.counted (it.was_open clean) s rests) known to.is
+              (let stood = new.counted (it.is_open clean) to.state to.rests in (stood.receipts.0, stood.documents.0));
+          rests = to.rests;
+        };
     failed = λ clean. tt;
     fault = tt;
     crash = leaves wrote (told a) old new is it.crash;

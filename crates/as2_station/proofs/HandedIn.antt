@@ -19,7 +19,8 @@ use Rattle.as2_station.specs.Heads.{submit_refusal}
 -- what is refused, and what isn't, by three tests
 refused_by : (a b large : Bool) (s : State) (rest : Option (Answer × State)) (reason : Refusal)
     → (if not a then Some UnknownOrganization else if not b then Some UnknownPartner else if large then Some TooLarge else None) ≡ Some reason
-    → (if not a then Some (Refused UnknownOrganization, s) else if not b then Some (Refused UnknownPartner, s) else if large then Some (Refused TooLarge, s) else rest) ≡ Some (Refused reason, s)
+    → (if not a then Some (Refused UnknownOrganization, s) else if not b then Some (Refused UnknownPartner, s) else if large then Some
+    (Refused TooLarge, s) else rest) ≡ Some (Refused reason, s)
 refused_by true true true s rest reason is = let same : TooLarge ≡ reason = cc in ap (λ r. Some (Refused r, s)) same
 refused_by true true false s rest reason is = absurd cc
 refused_by true false large s rest reason is = let same : UnknownPartner ≡ reason = cc in ap (λ r. Some (Refused r, s)) same
@@ -27,7 +28,8 @@ refused_by false b large s rest reason is = let same : UnknownOrganization ≡ r
 
 taken_by : (a b large : Bool) (s : State) (rest : Option (Answer × State))
     → (if not a then Some UnknownOrganization else if not b then Some UnknownPartner else if large then Some TooLarge else None) ≡ None
-    → (if not a then Some (Refused UnknownOrganization, s) else if not b then Some (Refused UnknownPartner, s) else if large then Some (Refused TooLarge, s) else rest) ≡ rest
+    → (if not a then Some (Refused UnknownOrganization, s) else if not b then Some (Refused UnknownPartner, s) else if large then Some
+    (Refused TooLarge, s) else rest) ≡ rest
 taken_by true true true s rest is = absurd cc
 taken_by true true false s rest is = refl
 taken_by true false large s rest is = absurd cc
@@ -36,7 +38,8 @@ taken_by false b large s rest is = absurd cc
 pub refuses : (A : Agreements) (s : State) (organization partner content : Text) (m : ℕ) (reason : Refusal)
     → submit_refusal A organization partner content ≡ Some reason → submit A s organization partner content m ≡ Some (Refused reason, s)
 unfolding submit
-refuses A s organization partner content m reason is = refused_by (is_organization A organization) (is_some (partner_of A partner)) (nat_lt content_limit (length content)) s _ reason is
+refuses A s organization partner content m reason is =
+    refused_by (is_organization A organization) (is_some (partner_of A partner)) (nat_lt content_limit (length content)) s _ reason is
 
 -- a fault of memory, or of a text that can't be read
 pub may_be : (f : StoreFault) → (f ≡ Memory) ⊎ (f ≡ TheRefused) → may_come f ≡ true
@@ -53,7 +56,9 @@ pub submits : (A : Agreements) (s t : State) (organization partner content : Tex
 unfolding submit
 submits A s t organization partner content m n fine next is counter =
     let document = λ (k : ℕ). new_document A k organization partner content m in
-    let sum : Some (with_document s (document s.next_out)) ≡ Some t = ap (λ b. cond b (Some (with_document s (document s.next_out))) None) (sym (itself s.next_out)) ∙ (subst (λ k. added_document (document k) s ≡ Some t) next is) in
+    let sum : Some (with_document s (document s.next_out)) ≡ Some t =
+    ap (λ b. cond b (Some (with_document s (document s.next_out))) None) (sym (itself s.next_out))
+    ∙ (subst (λ k. added_document (document k) s ≡ Some t) next is) in
     let there : with_document s (document s.next_out) ≡ t = cc in
     let room : s.next_out + 1 ≤ end_of_numbers = subst (λ (x : State). x.next_out ≤ end_of_numbers) (sym there) counter.most in
     taken_by (is_organization A organization) (is_some (partner_of A partner)) (nat_lt content_limit (length content)) s _ fine
@@ -70,7 +75,8 @@ pub none_left : (A : Agreements) (s : State) (organization partner content : Tex
 unfolding submit
 none_left A s organization partner content m n fine next full =
     taken_by (is_organization A organization) (is_some (partner_of A partner)) (nat_lt content_limit (length content)) s _ fine
-    ∙ ap (λ b. cond b None (Some (Submitted s.next_out, with_document s (new_document A s.next_out organization partner content m)))) (used s.next_out (subst (λ k. end_of_numbers ≤ k) next full))
+    ∙ ap (λ b. cond b None (Some (Submitted s.next_out, with_document s (new_document A s.next_out organization partner content m))))
+    (used s.next_out (subst (λ k. end_of_numbers ≤ k) next full))
   where
     used : (k : ℕ) → end_of_numbers ≤ k → nat_le end_of_numbers k ≡ true
     used k less = grind (arith, nat_tests, less)

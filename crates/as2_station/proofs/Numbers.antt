@@ -56,7 +56,8 @@ pub changes_alike : {X : Type 0} (number : X → ℕ) (f g : X → X) (n : ℕ) 
     → map (λ x. if number x == n then f x else x) xs ≡ map (λ x. if number x == n then g x else x) xs
 unfolding IsDistinct
 changes_alike number f g n d [] apart found same = refl
-changes_alike number f g n d (x ∷ xs) apart found same = alike_step number f g n d x xs (number x == n) refl apart.0 (λ there. changes_alike number f g n d xs apart.1 there same) found same
+changes_alike number f g n d (x ∷ xs) apart found same =
+    alike_step number f g n d x xs (number x == n) refl apart.0 (λ there. changes_alike number f g n d xs apart.1 there same) found same
 
 again : (m : ℕ) (e : InEntry) → is_requeued e ≡ true → requeued_receipt m e ≡ requeued_by_repeat m e
 again m e h = rw h refl
@@ -68,9 +69,13 @@ not_again m e h = rw h refl
 pub sent_anew : (s : State) (m : ℕ) (e : InEntry) → IsDistinct (λ a b. a == b) (map (λ (x : InEntry). x.number) s.inbox) → received_entry s e.number ≡ Some e
     → is_requeued e ≡ true
     → change_received s e.number (requeued_receipt m) ≡ change_received s e.number (requeued_by_repeat m)
-sent_anew s m e apart found is = ap (λ (es : List InEntry). record s { inbox = es }) (changes_alike (λ (x : InEntry). x.number) (requeued_receipt m) (requeued_by_repeat m) e.number e s.inbox apart found (again m e is))
+sent_anew s m e apart found is =
+    ap (λ (es : List InEntry). record s { inbox = es })
+    (changes_alike (λ (x : InEntry). x.number) (requeued_receipt m) (requeued_by_repeat m) e.number e s.inbox apart found (again m e is))
 
 -- a receipt that it leaves
 pub left_alone : (s : State) (m : ℕ) (e : InEntry) → IsDistinct (λ a b. a == b) (map (λ (x : InEntry). x.number) s.inbox) → received_entry s e.number ≡ Some e
     → is_requeued e ≡ false → change_received s e.number (requeued_by_repeat m) ≡ s
-left_alone s m e apart found not = ap (λ (es : List InEntry). record s { inbox = es }) (left_as_is (λ (x : InEntry). x.number) (requeued_by_repeat m) e.number e s.inbox apart found (not_again m e not))
+left_alone s m e apart found not =
+    ap (λ (es : List InEntry). record s { inbox = es })
+    (left_as_is (λ (x : InEntry). x.number) (requeued_by_repeat m) e.number e s.inbox apart found (not_again m e not))

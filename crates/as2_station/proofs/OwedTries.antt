@@ -36,19 +36,36 @@ module _ (A : Agreements) (m : ℕ) (e : InEntry) where
   pub no_try : (p : Partner) (reason : Refusal) → agreed_partner A e.posted.receiver e.posted.sender ≡ Ok p → receipt_try_refusal p e m ≡ Some reason
       → begun_receipt A m e ≡ (Refused reason, e)
   unfolding begun_receipt
-  no_try p reason known is = acts_agreed A e.posted.receiver e.posted.sender e _ p known ∙ refused_by (not (is_pending e.receipt_stage)) (nat_le p.max_tries e.tries) (is_early m e.due) e _ reason is
+  no_try p reason known is = acts_agreed A e.posted.receiver e.posted.sender e _ p known
+      ∙ refused_by (not (is_pending e.receipt_stage)) (nat_le p.max_tries e.tries) (is_early m e.due) e _ reason is
 
   pub a_try : (p : Partner) → agreed_partner A e.posted.receiver e.posted.sender ≡ Ok p → receipt_try_refusal p e m ≡ None
       → begun_receipt A m e ≡ (AJob (receipt_job e.posted.how (receipt_out A e.number e.posted)), with_receipt_progress (tried_receipt p e m) e)
   unfolding begun_receipt
   a_try p known is =
-      acts_agreed A e.posted.receiver e.posted.sender e _ p known ∙ begins_by (not (is_pending e.receipt_stage)) (nat_le p.max_tries e.tries) (is_early m e.due) e _ is
+      acts_agreed A e.posted.receiver e.posted.sender e _ p known
+      ∙ begins_by (not (is_pending e.receipt_stage)) (nat_le p.max_tries e.tries) (is_early m e.due) e _ is
       ∙ by (receipt_job e.posted.how (receipt_out A e.number e.posted)) (nat_le p.max_tries (e.tries + 1))
     where
       by : (job : Job) (last : Bool)
           → ◌≡◌ {A = Answer
-          × InEntry} (AJob job, if last then record e { tries = e.tries + 1; attempt = Last; due = None } else record e { tries = e.tries + 1; attempt = Running; due = Some (m + p.retry_seconds) })
-          (AJob job, with_receipt_progress (if last then record { receipt_stage = e.receipt_stage; tries = e.tries + 1; attempt = Last; due = None } else record { receipt_stage = e.receipt_stage; tries = e.tries + 1; attempt = Running; due = Some (m + p.retry_seconds) }) e)
+          × InEntry} (
+            AJob job,
+            if last then record e { tries = e.tries + 1; attempt = Last; due = None } else record e {
+              tries = e.tries + 1;
+              attempt = Running;
+              due = Some (m + p.retry_seconds);
+            },
+          ) (
+            AJob job,
+            with_receipt_progress
+                (if last then record {
+                  receipt_stage = e.receipt_stage;
+                  tries = e.tries + 1;
+                  attempt = Last;
+                  due = None;
+                } else record { receipt_stage = e.receipt_stage; tries = e.tries + 1; attempt = Running; due = Some (m + p.retry_seconds) }) e,
+          )
       by job true = refl
       by job false = refl
 
@@ -68,7 +85,8 @@ pub begins_receipt : (A : Agreements) (m : ℕ) (s t : State) (e : InEntry) (p :
     → Some (on_received s e.number (begun_receipt A m)) ≡ Some (AJob (receipt_job e.posted.how (receipt_out A e.number e.posted)), t)
 begins_receipt A m s t e p stands found known fine is =
     let there : change_received s e.number (with_receipt_progress (tried_receipt p e m)) ≡ t = cc in
-    ap Some (changes_in s e stands found (begun_receipt A m) (AJob (receipt_job e.posted.how (receipt_out A e.number e.posted))) (with_receipt_progress (tried_receipt p e m)) (a_try A m e p known fine)
+    ap Some (changes_in s e stands found (begun_receipt A m) (AJob (receipt_job e.posted.how (receipt_out A e.number e.posted)))
+    (with_receipt_progress (tried_receipt p e m)) (a_try A m e p known fine)
     ∙ ap (λ (x : State). (AJob (receipt_job e.posted.how (receipt_out A e.number e.posted)), x)) there)
 
 -- ---- its outcome
@@ -95,14 +113,24 @@ module _ (A : Agreements) (got : TryAnswer) (m : ℕ) (e : InEntry) where
     where
       failed : (last : Bool)
           → ◌≡◌ {A = Answer
-          × InEntry} (if last then (TryFailed, record e { attempt = Used; due = None }) else (TryFailed, record e { attempt = Idle; due = Some (m + p.retry_seconds) }))
-          (TryFailed, with_receipt_progress (if last then record { receipt_stage = e.receipt_stage; tries = e.tries; attempt = Used; due = None } else record { receipt_stage = e.receipt_stage; tries = e.tries; attempt = Idle; due = Some (m + p.retry_seconds) }) e)
+          × InEntry} (if last then (TryFailed, record e { attempt = Used; due = None }) else
+          (TryFailed, record e { attempt = Idle; due = Some (m + p.retry_seconds) })) (
+            TryFailed,
+            with_receipt_progress
+                (if last then record {
+                  receipt_stage = e.receipt_stage;
+                  tries = e.tries;
+                  attempt = Used;
+                  due = None;
+                } else record { receipt_stage = e.receipt_stage; tries = e.tries; attempt = Idle; due = Some (m + p.retry_seconds) }) e,
+          )
       failed true = refl
       failed false = refl
 
       by : (delivered : Bool)
           → ◌≡◌ {A = Answer
-          × InEntry} (if delivered then (Delivered, record e { receipt_stage = Sent; attempt = Idle; due = None }) else if is_last e.attempt then (TryFailed, record e { attempt = Used; due = None }) else (TryFailed, record e { attempt = Idle; due = Some (m + p.retry_seconds) }))
+          × InEntry} (if delivered then (Delivered, record e { receipt_stage = Sent; attempt = Idle; due = None }) else if is_last e.attempt then
+          (TryFailed, record e { attempt = Used; due = None }) else (TryFailed, record e { attempt = Idle; due = Some (m + p.retry_seconds) }))
           (end_answer delivered, with_receipt_progress (ended_receipt delivered p e m) e)
       by true = refl
       by false = failed (is_last e.attempt)
@@ -113,5 +141,6 @@ pub ends_receipt : (A : Agreements) (got : TryAnswer) (m : ℕ) (s t : State) (e
     → Some (on_received s e.number (closed_receipt A got m)) ≡ Some (end_answer (is_delivery got), t)
 ends_receipt A got m s t e p stands found known pending under_way is =
     let there : change_received s e.number (with_receipt_progress (ended_receipt (is_delivery got) p e m)) ≡ t = cc in
-    ap Some (changes_in s e stands found (closed_receipt A got m) (end_answer (is_delivery got)) (with_receipt_progress (ended_receipt (is_delivery got) p e m)) (ends A got m e p known pending under_way)
+    ap Some (changes_in s e stands found (closed_receipt A got m) (end_answer (is_delivery got))
+    (with_receipt_progress (ended_receipt (is_delivery got) p e m)) (ends A got m e p known pending under_way)
     ∙ ap (λ (x : State). (end_answer (is_delivery got), x)) there)

@@ -20,7 +20,8 @@ module _ {H : Type 0} {M : Medium} (shows : H → Standing M) (A : Agreements) w
   taken_more [] [] e r old mid new same one head refuses = subst (λ h. TakesEvents shows A (e ∷ []) (r ∷ []) h new) same (new, one, head, refuses, refl)
   taken_more [] (q ∷ rs) e r old mid new none one head refuses = absurd none
   taken_more (x ∷ es) [] e r old mid new none one head refuses = absurd none
-  taken_more (x ∷ es) (q ∷ rs) e r old mid new before one head refuses = (before.0, before.1, before.2, before.3, taken_more es rs e r before.0 mid new before.4 one head refuses)
+  taken_more (x ∷ es) (q ∷ rs) e r old mid new before one head refuses =
+      (before.0, before.1, before.2, before.3, taken_more es rs e r before.0 mid new before.4 one head refuses)
 
   pub taken_clean : (es : List Event) (rs : List (Result Answer StoreFault)) (old new : H) → TakesEvents shows A es rs old new → (shows new).IsClean
       → (shows old).IsClean
@@ -30,7 +31,8 @@ module _ {H : Type 0} {M : Medium} (shows : H → Standing M) (A : Agreements) w
   taken_clean (x ∷ es) (q ∷ rs) old new it clean = it.1.does.clean (taken_clean es rs it.0 new it.4 clean)
 
   pub taken_plays : (es : List Event) (rs : List (Result Answer StoreFault)) (old new : H) → TakesEvents shows A es rs old new → Plays shows A es rs old new
-  taken_plays [] [] old new same clean s rests = record { end = s; run = refl; by_history = ends_by_history A s [] s refl; rests = subst (λ h. (shows h).Rests s) (sym same) rests }
+  taken_plays [] [] old new same clean s rests =
+      record { end = s; run = refl; by_history = ends_by_history A s [] s refl; rests = subst (λ h. (shows h).Rests s) (sym same) rests }
   taken_plays [] (q ∷ rs) old new none clean s rests = absurd none
   taken_plays (x ∷ es) [] old new none clean s rests = absurd none
   taken_plays (x ∷ es) (Ok a ∷ rs) old new it clean s rests =

@@ -42,7 +42,8 @@ settles s t m r d detail e stands named this unsettled by same is =
     let left : Some (change_document s d.number (settled_as detail e)) ≡ Some t = sym (settles_to s d.number detail e d by number unsettled) ∙ is in
     let there : change_document s d.number (settled_as detail e) ≡ t = cc in
     let alike : change_document s d.number (settled_document m r) ≡ change_document s d.number (settled_as detail e) =
-    ap (λ (ds : List OutEntry). record s { outbox = ds }) (sym (changes_alike (λ (x : OutEntry). x.number) (settled_as detail e) (settled_document m r) d.number d s.outbox apart number same)) in
+    ap (λ (ds : List OutEntry). record s { outbox = ds })
+    (sym (changes_alike (λ (x : OutEntry). x.number) (settled_as detail e) (settled_document m r) d.number d s.outbox apart number same)) in
     rw (named, this, unsettled) (ap (λ (x : State). Some (http 200 Nothing, x)) (alike ∙ there))
 
 -- a repeat queues the receipt of its entry again
@@ -62,7 +63,8 @@ pub stays : (A : Agreements) (s : State) (m : ℕ) (p : Posted) (e : InEntry) �
     → record_given A s m p (Some e) ≡ Some (answer_to A e.number e.posted, s)
 stays A s m p e stands found same left =
     let apart = stands.receipts.1.distinct in
-    rw same (ap (λ (x : State). Some (answer_to A e.number e.posted, x)) (left_alone s m e apart (found_number (λ (x : InEntry). x.number) _ s.inbox e apart found) left))
+    rw same (ap (λ (x : State). Some (answer_to A e.number e.posted, x))
+    (left_alone s m e apart (found_number (λ (x : InEntry). x.number) _ s.inbox e apart found) left))
 
 -- a document that isn't one clashes with it
 pub clashes : (A : Agreements) (s : State) (m : ℕ) (p : Posted) (e : InEntry) → repeats (origin_of s.version) e.number e.posted p ≡ false
@@ -73,10 +75,13 @@ clashes A s m p e other = rw other refl
 pub adds : (A : Agreements) (s t : State) (m n : ℕ) (p : Posted) → n ≡ s.next_in → state_with (first_entry n m p) s ≡ Some t → IsCounter t.next_in
     → record_given A s m p None ≡ Some (answer_to A n p, t)
 adds A s t m n p next is counter =
-    let sum : Some (with_received s (first_entry s.next_in m p)) ≡ Some t = ap (λ b. cond b (Some (with_received s (first_entry s.next_in m p))) None) (sym (itself s.next_in)) ∙ (subst (λ k. state_with (first_entry k m p) s ≡ Some t) next is) in
+    let sum : Some (with_received s (first_entry s.next_in m p)) ≡ Some t =
+    ap (λ b. cond b (Some (with_received s (first_entry s.next_in m p))) None) (sym (itself s.next_in))
+    ∙ (subst (λ k. state_with (first_entry k m p) s ≡ Some t) next is) in
     let there : with_received s (first_entry s.next_in m p) ≡ t = cc in
     let room : s.next_in + 1 ≤ end_of_numbers = subst (λ (x : State). x.next_in ≤ end_of_numbers) (sym there) counter.most in
-    subst (λ k. record_given A s m p None ≡ Some (answer_to A k p, t)) (sym next) (rw (left_over s.next_in room) (ap (λ (x : State). Some (answer_to A s.next_in p, x)) there))
+    subst (λ k. record_given A s m p None ≡ Some (answer_to A k p, t)) (sym next)
+    (rw (left_over s.next_in room) (ap (λ (x : State). Some (answer_to A s.next_in p, x)) there))
   where
     itself : (k : ℕ) → (k == k) ≡ true
     itself k = grind (arith, nat_tests)

@@ -32,7 +32,8 @@ why_not ours partner settled failed =
 abbrev acted_by : OutEntry → Answer × OutEntry → Bool → Option Partner → Bool → Bool → Answer × OutEntry
 acted_by d made ours partner settled failed =
     if not ours then (Refused UnknownOrganization, d)
-    else option_map_or (λ (p : Partner). if settled then (Refused AllSettled, d) else if not failed then (Refused NotDue, d) else made) partner (Refused UnknownPartner, d)
+    else option_map_or (λ (p : Partner). if settled then (Refused AllSettled, d) else if not failed then (Refused NotDue, d) else made) partner
+    (Refused UnknownPartner, d)
 
 refused_by : (d : OutEntry) (made : Answer × OutEntry) (ours : Bool) (partner : Option Partner) (settled failed : Bool) (reason : Refusal)
     → why_not ours partner settled failed ≡ Some reason → acted_by d made ours partner settled failed ≡ (Refused reason, d)
@@ -55,16 +56,19 @@ made_by d made true (Some p) false true is = refl
 module _ (A : Agreements) (m : ℕ) (d : OutEntry) where
   pub not_resent : (reason : Refusal) → resend_refusal A d ≡ Some reason → resent_document A m d ≡ (Refused reason, d)
   unfolding resent_document
-  not_resent reason is = refused_by d (Resent, queued_anew m d) (is_organization A d.organization) (partner_of A d.partner) (is_settled d) (is_error (class_of d.detail)) reason is
+  not_resent reason is = refused_by d (Resent, queued_anew m d) (is_organization A d.organization) (partner_of A d.partner) (is_settled d)
+      (is_error (class_of d.detail)) reason is
 
   pub is_resent : resend_refusal A d ≡ None → resent_document A m d ≡ (Resent, queued_anew m d)
   unfolding resent_document
-  is_resent is = made_by d (Resent, queued_anew m d) (is_organization A d.organization) (partner_of A d.partner) (is_settled d) (is_error (class_of d.detail)) is
+  is_resent is = made_by d (Resent, queued_anew m d) (is_organization A d.organization) (partner_of A d.partner) (is_settled d)
+      (is_error (class_of d.detail)) is
 
 -- what is written is what the machine leaves
 pub resends : (A : Agreements) (m : ℕ) (s t : State) (d : OutEntry) → IsCounted s → document s d.number ≡ Some d → resend_refusal A d ≡ None
     → resent_in d.number m s ≡ Some t → Some (on_document s d.number (resent_document A m)) ≡ Some (Resent, t)
 resends A m s t d stands found fine is =
-    let left : Some (change_document s d.number (queued_anew m)) ≡ Some t = ap (option_map (λ _. change_document s d.number (queued_anew m))) (sym found) ∙ is in
+    let left : Some (change_document s d.number (queued_anew m)) ≡ Some t =
+    ap (option_map (λ _. change_document s d.number (queued_anew m))) (sym found) ∙ is in
     let there : change_document s d.number (queued_anew m) ≡ t = cc in
     ap Some (changes s d stands found (resent_document A m) Resent (queued_anew m) (is_resent A m d fine) ∙ ap (λ (x : State). (Resent, x)) there)

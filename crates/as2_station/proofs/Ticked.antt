@@ -29,7 +29,11 @@ module _ {M : Medium} (m : ℕ) (old new : Standing M) where
     answered = λ clean s rests known.
         let to = it.done clean s rests in
         let left : (tick m s).1 ≡ to.state = (let i = to.is in cc) in
-        record { next = to.state; step = ap Some (ap (λ (a : Answer). (a, (tick m s).1)) (sym (counted clean s rests)) ∙ ap (λ (t : State). (Ticked count, t)) left); rests = to.rests };
+        record {
+          next = to.state;
+          step = ap Some (ap (λ (a : Answer). (a, (tick m s).1)) (sym (counted clean s rests)) ∙ ap (λ (t : State). (Ticked count, t)) left);
+          rests = to.rests;
+        };
     failed = λ clean. tt;
     fault = tt;
     crash = leaves it.crash;

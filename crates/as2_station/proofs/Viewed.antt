@@ -43,21 +43,25 @@ Rising wanted s m = Known wanted s m × Rise (document_numbers s)
 
 rising : {M : Medium} (wanted : Option DetailClass) (old new : Standing M) (m : Marked) → Reads {A = Marked} {E = StoreFault} (Known wanted) old new (Ok m)
     → Reads {A = Marked} {E = StoreFault} (Rising wanted) old new (Ok m)
-rising wanted old new m it = reads_standing (Known wanted) (Rising wanted) old new (Ok m) (λ s m stands known. (known, given_rise s.next_out (document_numbers s) stands.documents.1)) it
+rising wanted old new m it =
+    reads_standing (Known wanted) (Rising wanted) old new (Ok m) (λ s m stands known. (known, given_rise s.next_out (document_numbers s) stands.documents.1)) it
 
 -- what holds of an answer where numbers rise
 under : {B F X : Type 0} (Q : B → Type 0) (r : Result B F) → (X → IfOk r Q) → IfOk r (λ b. X → Q b)
 under Q (Ok b) h = h
 under Q (Err e) h = tt
 
-module _ {M : Medium} (old new : Standing M) (m : Marked) (rows : List OutRow) (settled : List ℕ) (r : Result (String Global) StoreFault) (same_rows : rows ≡ m.rows.items) (same_settled : settled ≡ m.settled.items) where
+module _ {M : Medium} (old new : Standing M) (m : Marked) (rows : List OutRow) (settled : List ℕ) (r : Result (String Global) StoreFault)
+    (same_rows : rows ≡ m.rows.items) (same_settled : settled ≡ m.settled.items) where
   pub sent_lines : (wanted : Option DetailClass) → (Rise settled → IfOk r (λ t. string_bytes t ≡ flat_map (marked_line settled) rows))
       → Reads {A = Marked} {E = StoreFault} (Known wanted) old new (Ok m) → Reads (λ s t. string_bytes t ≡ list_out s wanted) old new r
   sent_lines wanted lines it =
-      read_if (Rising wanted) (λ s t. string_bytes t ≡ list_out s wanted) old new m r (λ t. Rise settled → string_bytes t ≡ flat_map (marked_line settled) rows) (under _ r lines)
+      read_if (Rising wanted) (λ s t. string_bytes t ≡ list_out s wanted) old new m r
+      (λ t. Rise settled → string_bytes t ≡ flat_map (marked_line settled) rows) (under _ r lines)
       (λ s t told known.
       let numbers = same_settled ∙ known.0.1 in
-      told (subst Rise (sym numbers) (settled_rise s known.1)) ∙ ap₂ (λ n l. flat_map (marked_line n) l) numbers (same_rows ∙ known.0.0) ∙ outbox_lines s wanted known.1)
+      told (subst Rise (sym numbers) (settled_rise s known.1)) ∙ ap₂ (λ n l. flat_map (marked_line n) l) numbers (same_rows ∙ known.0.0)
+      ∙ outbox_lines s wanted known.1)
       (rising wanted old new m it)
 
   -- with the counts, where these were read before
@@ -66,7 +70,8 @@ module _ {M : Medium} (old new : Standing M) (m : Marked) (rows : List OutRow) (
       → Reads {A = Marked} {E = StoreFault} (Known None) old new (Ok m)
       → Reads (λ s t. counts ≡ counts_of s → string_bytes t ≡ outstanding_text s moment) old new r
   outstanding_known moment counts lines it =
-      read_if (Rising None) (λ s t. counts ≡ counts_of s → string_bytes t ≡ outstanding_text s moment) old new m r (λ t. Rise settled → string_bytes t ≡ counts_text counts ++ flat_map (marked_line settled) (filter (is_outstanding moment) rows)) (under _ r lines)
+      read_if (Rising None) (λ s t. counts ≡ counts_of s → string_bytes t ≡ outstanding_text s moment) old new m r
+      (λ t. Rise settled → string_bytes t ≡ counts_text counts ++ flat_map (marked_line settled) (filter (is_outstanding moment) rows)) (under _ r lines)
       (λ s t told known counted.
       let numbers = same_settled ∙ known.0.1 in
       let all = same_rows ∙ known.0.0 ∙ ap (map out_summary) (all_listed s.outbox) in
@@ -81,5 +86,6 @@ module _ {M : Medium} (old new : Standing M) (m : Marked) (rows : List OutRow) (
       → Reads {A = Counts} {E = StoreFault} (λ s c. c ≡ counts_of s) first old (Ok counts) → Reads {A = Marked} {E = StoreFault} (Known None) old new (Ok m)
       → Reads (λ s t. string_bytes t ≡ outstanding_text s moment) first new r
   outstanding_shown first moment counts lines one two =
-      read_then (λ s c. c ≡ counts_of s) (λ s t. counts ≡ counts_of s → string_bytes t ≡ outstanding_text s moment) (λ s t. string_bytes t ≡ outstanding_text s moment) first old new counts r (λ s t rests known more. more known) one
+      read_then (λ s c. c ≡ counts_of s) (λ s t. counts ≡ counts_of s → string_bytes t ≡ outstanding_text s moment)
+      (λ s t. string_bytes t ≡ outstanding_text s moment) first old new counts r (λ s t rests known more. more known) one
       (outstanding_known moment counts lines two)

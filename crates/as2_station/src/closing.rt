@@ -17,7 +17,7 @@ use crate::receipts::{bears, evidence_of};
 use crate::said::{Became, Ended};
 use crate::terms::Terms;
 use as2_agreement::{Asked, Partner};
-use as2_exchange::{Attempt, Evidence, OutEntry, Refusal, StoreFault, TryAnswer};
+use as2_exchange::{Attempt, Evidence, OutEntry, Refusal, RowPlace, StoreFault, Table, TryAnswer};
 use as2_mdn::{Detail, read_report, verdict_pieces};
 use as2_mic::Pieces;
 use as2_posts::{Opened, open_answer};
@@ -171,8 +171,8 @@ fn end_of(
     }
 }
 
-/// Writes how the try of the document has ended. A document of which a try is open was begun: where it is kept that it wasn't, the
-/// records are damaged, which is Refused.
+/// Writes how the try of the document has ended. A document of which a try is open was begun: where it is kept that it wasn't, its
+/// row is damaged.
 fn end_try<R: Records>(records: &mut R, entry: &OutEntry, end: End) -> Result<Ended, StoreFault>
     requires unsettled { LeavesUnsettled end }
     requires open { (R.shows records.old).IsClean → IsTrue (R.shows records.old).is_open }
@@ -181,7 +181,10 @@ fn end_try<R: Records>(records: &mut R, entry: &OutEntry, end: End) -> Result<En
         ≡ Some entry.now) (true ≡ true) said_to_outcome (R.shows records.old) (R.shows records.new) result }
 {
     if !entry.begun {
-        return Err(StoreFault::Refused);
+        return Err(StoreFault::Damaged(RowPlace {
+            table: Table::Outbox,
+            number: entry.number,
+        }));
     }
     match end {
         End::ByReceipt { detail, evidence } => {

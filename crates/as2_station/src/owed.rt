@@ -15,7 +15,10 @@ use crate::said::{Became, Begun, Ended};
 use crate::terms::Terms;
 use crate::trying::is_early;
 use as2_agreement::{Agreements, Partner};
-use as2_exchange::{Attempt, InEntry, ReceiptStage, Refusal, StoreFault, TryAnswer};
+use as2_exchange::{
+    Attempt, InEntry, ReceiptDelivery, ReceiptStage, Refusal, RowPlace, StoreFault, Table,
+    TryAnswer,
+};
 use as2_posts::receipt_job;
 use as2_records::{ReceiptProgress, Records};
 use as2_text::Moment;
@@ -67,7 +70,8 @@ fn tried(partner: &Partner, entry: &InEntry, moment: Moment) -> ReceiptProgress
     }
 }
 
-/// Begins a try of the receipt of this entry, unless that is refused.
+/// Begins a try of the receipt of this entry, unless that is refused. An entry whose receipt is to be sent has an address: where it
+/// is kept that it has none, its row is damaged.
 fn begin_found<R: Records>(
     records: &mut R,
     alloc: Global,
@@ -88,7 +92,13 @@ fn begin_found<R: Records>(
         return Ok(Err(reason));
     }
     let progress = tried(partner, entry, moment);
-    let job = receipt_job(alloc, agreements, entry.number, &entry.posted)?;
+    let ReceiptDelivery::Async(address) = &entry.posted.how else {
+        return Err(StoreFault::Damaged(RowPlace {
+            table: Table::Inbox,
+            number: entry.number,
+        }));
+    };
+    let job = receipt_job(alloc, agreements, entry.number, &entry.posted, address)?;
     records.set_receipt(entry.number, progress)?;
     Ok(Ok(job))
 }

@@ -31,8 +31,10 @@ pub rests_as : (layout : Layout) (new : Connected) (s : State) → Opens new →
     → Stands layout (record { schema = schema_of layout; trees = new.committed.trees }) s → RestsAs layout new s
 unfolding IsWhole
 rests_as layout new s opens live it =
-    let schema : new.committed.schema ≡ schema_of layout = lists_once (new.committed.trees catalog_tree) new.committed.schema (schema_of layout) (live opens.is_open).1.lists it.sound.lists in
-    let again : new.committed ≡ record { schema = schema_of layout; trees = new.committed.trees } = ap (λ (x : Schema). let d : Database = record { schema = x; trees = new.committed.trees } in d) schema in
+    let schema : new.committed.schema ≡ schema_of layout =
+    lists_once (new.committed.trees catalog_tree) new.committed.schema (schema_of layout) (live opens.is_open).1.lists it.sound.lists in
+    let again : new.committed ≡ record { schema = schema_of layout; trees = new.committed.trees } =
+    ap (λ (x : Schema). let d : Database = record { schema = x; trees = new.committed.trees } in d) schema in
     record {
       autocommit = opens.autocommit;
       stands = λ _. subst (λ (d : Database). Stands layout d s) (sym (opens.clean ∙ again)) it;

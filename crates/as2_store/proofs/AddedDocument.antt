@@ -43,7 +43,8 @@ pub puts_out : (way : Way) (old new : Connected) (d : OutEntry) (count : ℕ) �
     → Executes out_put_text (out_shown d) old new (Ok count)
     → ChangesTable old new (store_schema way) outbox_tree (put_row (out_row d) (old.now.trees outbox_tree))
 puts_out way old new d count has h =
-    inserts_given out_put_text (out_shown d) old new (store_schema way) has 3 outbox_table refl refl out_put_terms 12 (out_row d) (one_out d) refl (out_put_is way) (out_put_plain way) count h
+    inserts_given out_put_text (out_shown d) old new (store_schema way) has 3 outbox_table refl refl out_put_terms 12 (out_row d) (one_out d) refl
+    (out_put_is way) (out_put_plain way) count h
 
 -- ---- what waits
 
@@ -58,7 +59,8 @@ noted_document s x outs ins is small =
 -- ---- the state
 
 pieces_more : (ds : List OutEntry) (x : OutEntry) → outbox_pieces ds ++ pieces x.number x.content ≡ outbox_pieces (ds ++ x ∷ [])
-pieces_more ds x = sym (flat_map-append (λ (d : OutEntry). pieces d.number d.content) ds (x ∷ []) ∙ ap (λ l. outbox_pieces ds ++ l) (append-nil (pieces x.number x.content)))
+pieces_more ds x = sym (flat_map-append (λ (d : OutEntry). pieces d.number d.content) ds (x ∷ [])
+    ∙ ap (λ l. outbox_pieces ds ++ l) (append-nil (pieces x.number x.content)))
 
 no_more_evidence : (ds : List OutEntry) (x : OutEntry) → x.evidence ≡ None → evidence_rows ds ≡ evidence_rows (ds ++ x ∷ [])
 no_more_evidence ds x none = sym (
@@ -78,23 +80,35 @@ entered_document way a b c d s x it small unsettled tried one two three =
     let k1 = keeping way AtOutbox a.now.trees b.now.trees one.others in
     let k2 = keeping way AtOutboxPiece b.now.trees c.now.trees two.others in
     let k3 = keeping way AtWaiting c.now.trees d.now.trees note.others in
-    let low = all_weaken (λ n. n < s.next_in) (λ n. n < end_of_numbers) (λ n less. omega (arith, less, it.receipts.0.most)) (map (λ (e : InEntry). e.number) s.inbox) it.receipts.1.below in
+    let low = all_weaken (λ n. n < s.next_in) (λ n. n < end_of_numbers) (λ n less. omega (arith, less, it.receipts.0.most))
+    (map (λ (e : InEntry). e.number) s.inbox) it.receipts.1.below in
     record {
-      counters = record { schema = note.schema_is; meta = k3 AtMeta (λ e. omega arith) ∙ k2 AtMeta (λ e. omega arith) ∙ k1 AtMeta (λ e. omega arith) ∙ it.meta };
+      counters = record {
+        schema = note.schema_is;
+        meta = k3 AtMeta (λ e. omega arith) ∙ k2 AtMeta (λ e. omega arith)
+            ∙ k1 AtMeta (λ e. omega arith) ∙ it.meta;
+      };
       entries = λ is. record {
         inbox = k3 AtInbox (λ e. omega arith) ∙ k2 AtInbox (λ e. omega arith) ∙ k1 AtInbox (λ e. omega arith) ∙ has.inbox;
-        inbox_contents = unchanged (k3 AtInboxPiece (λ e. omega arith) ∙ k2 AtInboxPiece (λ e. omega arith) ∙ k1 AtInboxPiece (λ e. omega arith)) has.inbox_contents;
-        outbox = k3 AtOutbox (λ e. omega arith) ∙ k2 AtOutbox (λ e. omega arith) ∙ one.rows_are ∙ ap (put_row (out_row x)) (has.outbox ∙ ap (map out_row) (sym (append-nil s.outbox)))
-            ∙ puts_between out_row (λ (q : OutEntry). q.number) (λ _. refl) x s.outbox [] (below_all (λ (q : OutEntry). q.number) s.next_out x.number s.outbox it.documents.1 is) tt;
+        inbox_contents = unchanged
+            (k3 AtInboxPiece (λ e. omega arith) ∙ k2 AtInboxPiece (λ e. omega arith) ∙ k1 AtInboxPiece (λ e. omega arith)) has.inbox_contents;
+        outbox = k3 AtOutbox (λ e. omega arith) ∙ k2 AtOutbox (λ e. omega arith) ∙ one.rows_are
+            ∙ ap (put_row (out_row x)) (has.outbox ∙ ap (map out_row) (sym (append-nil s.outbox)))
+            ∙ puts_between out_row (λ (q : OutEntry). q.number) (λ _. refl) x s.outbox []
+            (below_all (λ (q : OutEntry). q.number) s.next_out x.number s.outbox it.documents.1 is) tt;
         outbox_contents = subst (λ ps. HasRows (d.now.trees outbox_piece_tree) (map piece_shown ps)) (pieces_more s.outbox x)
-            (unchanged (k3 AtOutboxPiece (λ e. omega arith)) (two.pieces_are (outbox_pieces s.outbox) (unchanged (k1 AtOutboxPiece (λ e. omega arith)) has.outbox_contents)));
-        evidence = k3 AtEvidence (λ e. omega arith) ∙ k2 AtEvidence (λ e. omega arith) ∙ k1 AtEvidence (λ e. omega arith) ∙ has.evidence ∙ no_more_evidence s.outbox x unsettled;
+            (unchanged (k3 AtOutboxPiece (λ e. omega arith))
+            (two.pieces_are (outbox_pieces s.outbox) (unchanged (k1 AtOutboxPiece (λ e. omega arith)) has.outbox_contents)));
+        evidence = k3 AtEvidence (λ e. omega arith) ∙ k2 AtEvidence (λ e. omega arith) ∙ k1 AtEvidence (λ e. omega arith) ∙ has.evidence
+            ∙ no_more_evidence s.outbox x unsettled;
         waits = note.rows_are ∙ ap (noted_rows (out_waiting x)) (k2 AtWaiting (λ e. omega arith) ∙ k1 AtWaiting (λ e. omega arith) ∙ has.waits)
             ∙ noted_document s x it.documents.1 low is small;
       };
       version = still_origin (k3 AtOrigin (λ e. omega arith) ∙ k2 AtOrigin (λ e. omega arith) ∙ k1 AtOrigin (λ e. omega arith)) it.version;
-      begun = λ is. still_resent (k3 AtResent (λ e. omega arith) ∙ k2 AtResent (λ e. omega arith) ∙ k1 AtResent (λ e. omega arith)) (resent_more _ s.next_out s.outbox x it.documents.1 is tried it.begun);
-      left = still_emptied way AtWaiting c.now d.now note.others (still_emptied way AtOutboxPiece b.now c.now two.others (still_emptied way AtOutbox a.now b.now one.others it.left));
+      begun = λ is. still_resent (k3 AtResent (λ e. omega arith) ∙ k2 AtResent (λ e. omega arith) ∙ k1 AtResent (λ e. omega arith))
+          (resent_more _ s.next_out s.outbox x it.documents.1 is tried it.begun);
+      left = still_emptied way AtWaiting c.now d.now note.others
+          (still_emptied way AtOutboxPiece b.now c.now two.others (still_emptied way AtOutbox a.now b.now one.others it.left));
     }
 
 -- and then the counter
@@ -123,7 +137,9 @@ stands_submitted way a d e s x it is small mid four =
       receipts = it.receipts;
       documents = (
         record { least = omega (arith, it.documents.0.least); most = omega (arith, small, is) },
-        subst (AreNumbers (s.next_out + 1)) (sym (map_last (λ (q : OutEntry). q.number) s.outbox x ∙ ap (λ k. map (λ (q : OutEntry). q.number) s.outbox ++ k ∷ []) is)) (numbers_push s.next_out (map (λ (q : OutEntry). q.number) s.outbox) it.documents.1),
+        subst (AreNumbers (s.next_out + 1))
+            (sym (map_last (λ (q : OutEntry). q.number) s.outbox x ∙ ap (λ k. map (λ (q : OutEntry). q.number) s.outbox ++ k ∷ []) is))
+            (numbers_push s.next_out (map (λ (q : OutEntry). q.number) s.outbox) it.documents.1),
       );
     }
 

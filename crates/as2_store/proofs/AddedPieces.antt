@@ -25,7 +25,9 @@ use Rattle.as2_store.proofs.Texts.{inbox_piece_place, inbox_piece_there, piece_p
 
 puts_piece : (p : Piece) (before : List Piece) (rows : List Row) → HasRows rows (map piece_shown before)
     → HasRows (put_row (Int (next_rowid rows) ∷ piece_shown p) rows) (map piece_shown (before ++ p ∷ []))
-puts_piece p before rows has = subst (HasRows (put_row (Int (next_rowid rows) ∷ piece_shown p) rows)) (sym (map-append piece_shown before (p ∷ []))) (one_more_row rows (map piece_shown before) (piece_shown p) has)
+puts_piece p before rows has =
+    subst (HasRows (put_row (Int (next_rowid rows) ∷ piece_shown p) rows)) (sym (map-append piece_shown before (p ∷ [])))
+    (one_more_row rows (map piece_shown before) (piece_shown p) has)
 
 -- ---- one after another
 
@@ -39,7 +41,8 @@ pub appended_then : (way : Way) (a b c : Connected) (tree : ℕ) (ps qs : List P
     → AppendsPieces way a c tree (ps ++ qs)
 appended_then way a b c tree ps qs one two = record {
   schema_is = two.schema_is;
-  pieces_are = λ before are. subst (λ all. HasRows (c.now.trees tree) (map piece_shown all)) (append_assoc before ps qs) (two.pieces_are (before ++ ps) (one.pieces_are before are));
+  pieces_are = λ before are. subst (λ all. HasRows (c.now.trees tree) (map piece_shown all)) (append_assoc before ps qs)
+      (two.pieces_are (before ++ ps) (one.pieces_are before are));
   others = others_then a.now.trees b.now.trees c.now.trees tree (store_schema way).tables one.others two.others;
 }
 
@@ -54,14 +57,17 @@ out_piece p = record { source = Null ∷ piece_shown p; made = refl; cast_is = s
 pub puts_piece_in : (way : Way) (mailbox : Mailbox) (old new : Connected) (p : Piece) (count : ℕ) → old.now.schema ≡ store_schema way
     → Executes (piece_put_text mailbox) (piece_shown p) old new (Ok count) → AppendsPieces way old new (piece_tree way mailbox) (p ∷ [])
 puts_piece_in way Inbox old new p count has h =
-    let it = inserts_chosen (piece_put_text Inbox) (piece_shown p) old new (store_schema way) has (inbox_piece_place way) (inbox_piece_table way) (inbox_piece_there way) refl piece_put_terms 4 (Null ∷ piece_shown p) (in_piece way p) (piece_shown p) refl (in_piece_put_is way) (in_piece_put_plain way) count h in
+    let it = inserts_chosen (piece_put_text Inbox) (piece_shown p) old new (store_schema way) has (inbox_piece_place way) (inbox_piece_table way)
+    (inbox_piece_there way) refl piece_put_terms 4 (Null ∷ piece_shown p) (in_piece way p) (piece_shown p) refl (in_piece_put_is way)
+    (in_piece_put_plain way) count h in
     record {
       schema_is = it.schema_is;
       pieces_are = λ before are. unchanged it.rows_are (puts_piece p before (old.now.trees (inbox_piece_tree way)) are);
       others = it.others;
     }
 puts_piece_in way Outbox old new p count has h =
-    let it = inserts_chosen (piece_put_text Outbox) (piece_shown p) old new (store_schema way) has 4 outbox_piece_table refl refl piece_put_terms 4 (Null ∷ piece_shown p) (out_piece p) (piece_shown p) refl (out_piece_put_is way) (out_piece_put_plain way) count h in
+    let it = inserts_chosen (piece_put_text Outbox) (piece_shown p) old new (store_schema way) has 4 outbox_piece_table refl refl piece_put_terms 4
+    (Null ∷ piece_shown p) (out_piece p) (piece_shown p) refl (out_piece_put_is way) (out_piece_put_plain way) count h in
     record {
       schema_is = it.schema_is;
       pieces_are = λ before are. unchanged it.rows_are (puts_piece p before (old.now.trees outbox_piece_tree) are);

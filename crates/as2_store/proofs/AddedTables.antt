@@ -49,7 +49,8 @@ wrote way old new None has same = record {
 wrote way old new (Some w) has it = record { schema_is = it.schema_is; rows_are = it.rows_are; others = it.others }
 
 pieces_more : (s : State) (x : InEntry) → inbox_pieces s.inbox ++ pieces x.number x.posted.content ≡ inbox_pieces (s.inbox ++ x ∷ [])
-pieces_more s x = sym (flat_map-append (λ (e : InEntry). pieces e.number e.posted.content) s.inbox (x ∷ []) ∙ ap (λ l. inbox_pieces s.inbox ++ l) (append-nil (pieces x.number x.posted.content)))
+pieces_more s x = sym (flat_map-append (λ (e : InEntry). pieces e.number e.posted.content) s.inbox (x ∷ [])
+    ∙ ap (λ l. inbox_pieces s.inbox ++ l) (append-nil (pieces x.number x.posted.content)))
 
 pub below_all : {E : Type 0} (number : E → ℕ) (next n : ℕ) (es : List E) → AreNumbers next (map number es) → n ≡ next → AllByRecursion (λ q. number q < n) es
 below_all {E} number next n es h is = subst (λ n. AllByRecursion (λ q. number q < n) es) (sym is) (from (λ n. n < next) es h.below)
@@ -69,22 +70,33 @@ entered way a b c d s x it small one two three =
     let k1 = keeping way AtInbox a.now.trees b.now.trees one.others in
     let k2 = keeping way AtInboxPiece b.now.trees c.now.trees two.others in
     let k3 = keeping way AtWaiting c.now.trees d.now.trees note.others in
-    let low = all_weaken (λ n. n < s.next_out) (λ n. n < end_of_numbers) (λ n less. omega (arith, less, it.documents.0.most)) (map (λ (o : OutEntry). o.number) s.outbox) it.documents.1.below in
+    let low = all_weaken (λ n. n < s.next_out) (λ n. n < end_of_numbers) (λ n less. omega (arith, less, it.documents.0.most))
+    (map (λ (o : OutEntry). o.number) s.outbox) it.documents.1.below in
     record {
-      counters = record { schema = note.schema_is; meta = k3 AtMeta (λ e. omega arith) ∙ k2 AtMeta (λ e. omega arith) ∙ k1 AtMeta (λ e. omega arith) ∙ it.meta };
+      counters = record {
+        schema = note.schema_is;
+        meta = k3 AtMeta (λ e. omega arith) ∙ k2 AtMeta (λ e. omega arith)
+            ∙ k1 AtMeta (λ e. omega arith) ∙ it.meta;
+      };
       entries = λ is. record {
-        inbox = k3 AtInbox (λ e. omega arith) ∙ k2 AtInbox (λ e. omega arith) ∙ one.rows_are ∙ ap (put_row (in_row x)) (has.inbox ∙ ap (map in_row) (sym (append-nil s.inbox)))
-            ∙ puts_between in_row (λ (q : InEntry). q.number) (λ _. refl) x s.inbox [] (below_all (λ (q : InEntry). q.number) s.next_in x.number s.inbox it.receipts.1 is) tt;
-        inbox_contents = subst (λ ps. HasRows (d.now.trees (inbox_piece_tree way)) (map piece_shown ps)) (pieces_more s x) (unchanged (k3 AtInboxPiece (λ e. omega arith)) (two.pieces_are (inbox_pieces s.inbox) (unchanged (k1 AtInboxPiece (λ e. omega arith)) has.inbox_contents)));
+        inbox = k3 AtInbox (λ e. omega arith) ∙ k2 AtInbox (λ e. omega arith) ∙ one.rows_are
+            ∙ ap (put_row (in_row x)) (has.inbox ∙ ap (map in_row) (sym (append-nil s.inbox)))
+            ∙ puts_between in_row (λ (q : InEntry). q.number) (λ _. refl) x s.inbox []
+            (below_all (λ (q : InEntry). q.number) s.next_in x.number s.inbox it.receipts.1 is) tt;
+        inbox_contents = subst (λ ps. HasRows (d.now.trees (inbox_piece_tree way)) (map piece_shown ps)) (pieces_more s x)
+            (unchanged (k3 AtInboxPiece (λ e. omega arith))
+            (two.pieces_are (inbox_pieces s.inbox) (unchanged (k1 AtInboxPiece (λ e. omega arith)) has.inbox_contents)));
         outbox = k3 AtOutbox (λ e. omega arith) ∙ k2 AtOutbox (λ e. omega arith) ∙ k1 AtOutbox (λ e. omega arith) ∙ has.outbox;
-        outbox_contents = unchanged (k3 AtOutboxPiece (λ e. omega arith) ∙ k2 AtOutboxPiece (λ e. omega arith) ∙ k1 AtOutboxPiece (λ e. omega arith)) has.outbox_contents;
+        outbox_contents = unchanged
+            (k3 AtOutboxPiece (λ e. omega arith) ∙ k2 AtOutboxPiece (λ e. omega arith) ∙ k1 AtOutboxPiece (λ e. omega arith)) has.outbox_contents;
         evidence = k3 AtEvidence (λ e. omega arith) ∙ k2 AtEvidence (λ e. omega arith) ∙ k1 AtEvidence (λ e. omega arith) ∙ has.evidence;
         waits = note.rows_are ∙ ap (noted_rows (in_waiting x)) (k2 AtWaiting (λ e. omega arith) ∙ k1 AtWaiting (λ e. omega arith) ∙ has.waits)
             ∙ noted s x it.receipts.1.below low is small;
       };
       version = still_origin (k3 AtOrigin (λ e. omega arith) ∙ k2 AtOrigin (λ e. omega arith) ∙ k1 AtOrigin (λ e. omega arith)) it.version;
       begun = λ is. still_resent (k3 AtResent (λ e. omega arith) ∙ k2 AtResent (λ e. omega arith) ∙ k1 AtResent (λ e. omega arith)) it.begun;
-      left = still_emptied way AtWaiting c.now d.now note.others (still_emptied way AtInboxPiece b.now c.now two.others (still_emptied way AtInbox a.now b.now one.others it.left));
+      left = still_emptied way AtWaiting c.now d.now note.others
+          (still_emptied way AtInboxPiece b.now c.now two.others (still_emptied way AtInbox a.now b.now one.others it.left));
     }
 
 -- and then the counter
@@ -112,7 +124,9 @@ stands_received way a d e s x it is small mid four =
       left = still_emptied way AtMeta d.now e.now four.others mid.left;
       receipts = (
         record { least = omega (arith, it.receipts.0.least); most = omega (arith, small, is) },
-        subst (AreNumbers (s.next_in + 1)) (sym (map_last (λ (q : InEntry). q.number) s.inbox x ∙ ap (λ k. map (λ (q : InEntry). q.number) s.inbox ++ k ∷ []) is)) (numbers_push s.next_in (map (λ (q : InEntry). q.number) s.inbox) it.receipts.1),
+        subst (AreNumbers (s.next_in + 1))
+            (sym (map_last (λ (q : InEntry). q.number) s.inbox x ∙ ap (λ k. map (λ (q : InEntry). q.number) s.inbox ++ k ∷ []) is))
+            (numbers_push s.next_in (map (λ (q : InEntry). q.number) s.inbox) it.receipts.1),
       );
       documents = it.documents;
     }

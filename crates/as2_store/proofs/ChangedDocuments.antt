@@ -32,12 +32,15 @@ has_number n more d = ap (λ b. b && true) (numbers_equal d.number n) ∙ and_tr
 
 pub numbered : (n : ℕ) (more : Row) (ds : List OutEntry)
     → filter (λ (d : OutEntry). passes number_terms (Int (pos n) ∷ more) (out_row d)) ds ≡ filter (λ (d : OutEntry). d.number == n) ds
-numbered n more ds = filter_agree (λ (d : OutEntry). passes number_terms (Int (pos n) ∷ more) (out_row d)) (λ (d : OutEntry). d.number == n) (has_number n more) ds
+numbered n more ds = filter_agree (λ (d : OutEntry). passes number_terms (Int (pos n) ∷ more) (out_row d)) (λ (d : OutEntry). d.number == n)
+    (has_number n more) ds
 
 pub changed_rows : (f : OutEntry → OutEntry) (n : ℕ) (more : Row) (ds : List OutEntry)
-    → map (λ (d : OutEntry). cond (passes number_terms (Int (pos n) ∷ more) (out_row d)) (out_row (f d)) (out_row d)) ds ≡ map out_row (changed out_number n f ds)
+    → map (λ (d : OutEntry). cond (passes number_terms (Int (pos n) ∷ more) (out_row d)) (out_row (f d)) (out_row d)) ds ≡ map out_row
+    (changed out_number n f ds)
 changed_rows f n more [] = refl
-changed_rows f n more (d ∷ ds) = ap₂ ◌∷◌ (ap (λ t. cond t (out_row (f d)) (out_row d)) (has_number n more d) ∙ by_case (d.number == n)) (changed_rows f n more ds)
+changed_rows f n more (d ∷ ds) =
+    ap₂ ◌∷◌ (ap (λ t. cond t (out_row (f d)) (out_row d)) (has_number n more d) ∙ by_case (d.number == n)) (changed_rows f n more ds)
   where
     by_case : (t : Bool) → cond t (out_row (f d)) (out_row d) ≡ out_row (cond t (f d) d)
     by_case true = refl
@@ -75,10 +78,14 @@ module _ (f : OutEntry → OutEntry) (number_kept : (d : OutEntry) → (f d).num
   pub waits_changed : {layout : Layout} (t : Database) (s : State) → Stands layout t s → (it : Split out_number n s.outbox)
       → noted_rows (out_waiting (f it.one)) (map waiting_row (without_document n (all_waiting s))) ≡ map waiting_row (all_waiting (change_document s n f))
   waits_changed t s stood it =
-      let outs = all_weaken (λ k. k < s.next_out) (λ k. k < end_of_numbers) (λ k less. omega (arith, less, stood.documents.0.most)) (map (λ (d : OutEntry). d.number) s.outbox) stood.documents.1.below in
-      let ins = all_weaken (λ k. k < s.next_in) (λ k. k < end_of_numbers) (λ k less. omega (arith, less, stood.receipts.0.most)) (map (λ (e : InEntry). e.number) s.inbox) stood.receipts.1.below in
-      let each = subst (AllByRecursion (λ (d : OutEntry). d.number < end_of_numbers)) it.whole (all_from_map (λ k. k < end_of_numbers) (λ (d : OutEntry). d.number) s.outbox outs) in
-      let small : n < end_of_numbers = subst (λ k. k < end_of_numbers) it.here (at_one (λ (d : OutEntry). d.number < end_of_numbers) it.front it.one it.back each) in
+      let outs = all_weaken (λ k. k < s.next_out) (λ k. k < end_of_numbers) (λ k less. omega (arith, less, stood.documents.0.most))
+      (map (λ (d : OutEntry). d.number) s.outbox) stood.documents.1.below in
+      let ins = all_weaken (λ k. k < s.next_in) (λ k. k < end_of_numbers) (λ k less. omega (arith, less, stood.receipts.0.most))
+      (map (λ (e : InEntry). e.number) s.inbox) stood.receipts.1.below in
+      let each = subst (AllByRecursion (λ (d : OutEntry). d.number < end_of_numbers)) it.whole
+      (all_from_map (λ k. k < end_of_numbers) (λ (d : OutEntry). d.number) s.outbox outs) in
+      let small : n < end_of_numbers =
+      subst (λ k. k < end_of_numbers) it.here (at_one (λ (d : OutEntry). d.number < end_of_numbers) it.front it.one it.back each) in
       let late = behind_one (λ (d : OutEntry). d.number < end_of_numbers) it.front it.one it.back each in
       ap (λ ds. noted_rows (out_waiting (f it.one)) (map waiting_row (without_document n (all_waiting (record s { outbox = ds }))))) it.whole
       ∙ ap (λ ws. noted_rows (out_waiting (f it.one)) (map waiting_row ws)) (take_among n small it.front it.back s.inbox it.low it.high late ins it.one it.here)

@@ -30,7 +30,8 @@ inside_then a b c one two = record {
 
 pub keeps_of : (d : Database) (s : State) → Holds d s → Keeps d.trees s
 keeps_of d s it =
-    let same : d ≡ record { schema = store_schema it.way; trees = d.trees } = ap (λ (x : Schema). let e : Database = record { schema = x; trees = d.trees } in e) it.stands.schema in
+    let same : d ≡ record { schema = store_schema it.way; trees = d.trees } =
+    ap (λ (x : Schema). let e : Database = record { schema = x; trees = d.trees } in e) it.stands.schema in
     record { way = it.way; stands = subst (λ (e : Database). Stands (VersionThree it.way) e s) same it.stands }
 
 -- the statements of a transaction took each state that the tables stood for to the next one
@@ -39,7 +40,8 @@ pub record FollowsEach {S : Type 0} (g : Ghosts S) (old : Held S) (last : Connec
   pub reaches : (s : State) → Rests (state g old) s → (t : State) × (next s ≡ Some t) × Holds last.now t
 
 -- a statement that ran in it, whether it failed or not
-pub ran_inside : {S : Type 0} (g : Ghosts S) (sql : List ℕ) (params : Row) (old new : Held S) (r : Result ℕ Error) (stop : Error) (ended : old.in_transaction ≡ false → (r ≡ Err stop) × (new ≡ old))
+pub ran_inside : {S : Type 0} (g : Ghosts S) (sql : List ℕ) (params : Row) (old new : Held S) (r : Result ℕ Error) (stop : Error)
+    (ended : old.in_transaction ≡ false → (r ≡ Err stop) × (new ≡ old))
     → (HasCleanDisk (state g new) → IsTrue old.in_transaction → ExecutesInside 0 sql params (state g old) (state g new) r)
     → Survives (state g old) (state g new) (λ _. ⊥) → IsInside (state g old) (state g new)
 ran_inside g sql params old new r stop ended runs survives = record {
@@ -62,8 +64,10 @@ module _ {S : Type 0} (g : Ghosts S) (old : Held S) (last : Connected) (end : He
         was_open = λ clean. tt;
         is_open = λ clean. tt;
         done = λ clean. tt;
-        failed = λ clean s r. rests_after (state g old) last (state g end) s r (record { was_open = λ o. (inside.kept (was clean)).was_open o; committed = λ o. (inside.kept (was clean)).committed o }) (back clean);
-        crash = survives_then (state g old) last (state g end) (λ _. ⊥) (λ _. ⊥) (CommitsTables next (state g old)) (λ _ db none. absurd none) (λ _ db none. absurd none)
+        failed = λ clean s r. rests_after (state g old) last (state g end) s r
+            (record { was_open = λ o. (inside.kept (was clean)).was_open o; committed = λ o. (inside.kept (was clean)).committed o }) (back clean);
+        crash = survives_then (state g old) last (state g end) (λ _. ⊥) (λ _. ⊥) (CommitsTables next (state g old)) (λ _ db none. absurd none)
+            (λ _ db none. absurd none)
             (survives_begin g old last (λ _. ⊥) inside.survives) late;
       }
 
@@ -75,7 +79,8 @@ module _ {S : Type 0} (g : Ghosts S) (old : Held S) (last : Connected) (end : He
       let it = done (omega (arith, late.clean, clean)) in
       record {
         was_open = it.was_open;
-        stands = λ s r. let to = it.reaches s r in record { state = to.0; is = to.1; keeps = subst (λ (t : Trees). Keeps t to.0) (sym is) (keeps_of last.now to.0 to.2) };
+        stands = λ s r. let to =
+            it.reaches s r in record { state = to.0; is = to.1; keeps = subst (λ (t : Trees). Keeps t to.0) (sym is) (keeps_of last.now to.0 to.2) };
       })
       (survives_begin g old last (λ _. ⊥) inside.survives) late
 
@@ -90,7 +95,8 @@ module _ {S : Type 0} (g : Ghosts S) (old : Held S) (last : Connected) (end : He
         was_open = λ clean. tt;
         is_open = λ clean. tt;
         done = λ clean. tt;
-        failed = λ clean s r. rests_after (state g old) last (state g end) s r (record { was_open = λ o. (inside.kept (was clean)).was_open o; committed = λ o. (inside.kept (was clean)).committed o }) (back clean);
+        failed = λ clean s r. rests_after (state g old) last (state g end) s r
+            (record { was_open = λ o. (inside.kept (was clean)).was_open o; committed = λ o. (inside.kept (was clean)).committed o }) (back clean);
         crash = committed_crash inside late done;
       }
 
@@ -112,7 +118,10 @@ module _ {S : Type 0} (g : Ghosts S) (old : Held S) (last : Connected) (end : He
               state = to.0;
               is = to.1;
               rests = rests_committed last (state g end) to.0 to.2 shown;
-              lasts = record { each = λ db may. subst (λ (t : Trees). Keeps t to.0) (sym (settled db shown.is_open may ∙ ap (λ (d : Database). d.trees) shown.committed_is)) (keeps_of last.now to.0 to.2) };
+              lasts = record {
+                each = λ db may. subst (λ (t : Trees). Keeps t to.0)
+                    (sym (settled db shown.is_open may ∙ ap (λ (d : Database). d.trees) shown.committed_is)) (keeps_of last.now to.0 to.2);
+              };
             };
         failed = λ clean. tt;
         crash = committed_crash inside late done;
@@ -124,10 +133,12 @@ module _ {S : Type 0} (g : Ghosts S) (old : Held S) (last : Connected) (end : He
 pub write_told : {A E F : Type 0} (next : State → Option State) (old new : Connected) (r : Result A E) (told : Result A F) (Q : E → F → Type 0)
     → MatchResult r (λ x. told ≡ Ok x) (λ e. IsErrAnd told (Q e)) → WritesTables next old new r → WritesTables next old new told
 write_told {A} {E} {F} next old new (Ok x) told Q is it =
-    let same : WritesTables {A = A} {E = F} next old new (Ok x) = record { clean = it.clean; was_open = it.was_open; is_open = it.is_open; done = it.done; failed = it.failed; crash = it.crash } in
+    let same : WritesTables {A = A} {E = F} next old new (Ok x) =
+    record { clean = it.clean; was_open = it.was_open; is_open = it.is_open; done = it.done; failed = it.failed; crash = it.crash } in
     subst (WritesTables next old new) (sym is) same
 write_told next old new (Err e) (Ok x) Q is it = absurd is
-write_told next old new (Err e) (Err f) Q is it = record { clean = it.clean; was_open = it.was_open; is_open = it.is_open; done = it.done; failed = it.failed; crash = it.crash }
+write_told next old new (Err e) (Err f) Q is it =
+    record { clean = it.clean; was_open = it.was_open; is_open = it.is_open; done = it.done; failed = it.failed; crash = it.crash }
 
 -- seen from where the store is
 pub write_of : {A E : Type 0} (next : State → Option State) (inside outside new : Connected) (r : Result A E) → inside ≡ outside
@@ -140,5 +151,6 @@ pub committed_next : {S : Type 0} (g : Ghosts S) (old : Held S) (last : Connecte
     → db ≡ last.now.trees → CommitsTables next (state g old) db
 committed_next g old last next it db is = record {
   was_open = it.was_open;
-  stands = λ s r. let to = it.reaches s r in record { state = to.0; is = to.1; keeps = subst (λ (t : Trees). Keeps t to.0) (sym is) (keeps_of last.now to.0 to.2) };
+  stands = λ s r. let to =
+      it.reaches s r in record { state = to.0; is = to.1; keeps = subst (λ (t : Trees). Keeps t to.0) (sym is) (keeps_of last.now to.0 to.2) };
 }

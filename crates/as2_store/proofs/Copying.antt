@@ -42,7 +42,16 @@ pub none_compared : (tree : ℕ) (terms project : List Term) (order : List (Term
     → IsSureAnswer (over_table tree terms project order (lit (Int (negsuc 0)))) db params rows
 none_compared tree terms project order by db params rows sure lost =
     let a = sure lost in
-    record { staged = a.staged; grouped = a.grouped; kept = a.kept; distinct = a.distinct; ordered = a.ordered; same = a.same; sorted = a.sorted; shown = a.shown }
+    record {
+      staged = a.staged;
+      grouped = a.grouped;
+      kept = a.kept;
+      distinct = a.distinct;
+      ordered = a.ordered;
+      same = a.same;
+      sorted = a.sorted;
+      shown = a.shown;
+    }
 
 -- ---- the statement
 
@@ -52,7 +61,8 @@ both_false b c e = rw e
 chosen_for : (table : Table) (top : ℤ) → table.is_counted ≡ false → rowids_for table top ≡ Chosen
 chosen_for table top e = rw e
 
-module _ (sql : List ℕ) (params : Row) (old new : Connected) (schema : Schema) (has : old.now.schema ≡ schema) (at : ℕ) (table : Table) (place : slice_get schema.tables at ≡ Some table)
+module _ (sql : List ℕ) (params : Row) (old new : Connected) (schema : Schema) (has : old.now.schema ≡ schema) (at : ℕ) (table : Table)
+    (place : slice_get schema.tables at ≡ Some table)
     (uncounted : table.is_counted ≡ false) (unstamped : stamped table params ≡ params) (q : Program) where
   -- the rows that the query shows, and the edit that puts them in
   pub record Copied : Type 0 where

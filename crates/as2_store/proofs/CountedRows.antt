@@ -27,7 +27,8 @@ finds_details old new rows h s r =
     let here = r.stands (shown_open detail_text [] old new rows h) in
     let way = here.way in
     let it = here.stands in
-    reads_rows way detail_text (detail_plain way) (detail_unlisted way) outbox_tree [] detail_column_terms (codes "detail" ∷ []) (detail_is way) [] out_row (λ (d : OutEntry). detail_row d.detail) (λ _. refl) (λ _. true) (λ _. refl) old new rows h it.schema s.outbox it.entries.outbox
+    reads_rows way detail_text (detail_plain way) (detail_unlisted way) outbox_tree [] detail_column_terms (codes "detail" ∷ [])
+    (detail_is way) [] out_row (λ (d : OutEntry). detail_row d.detail) (λ _. refl) (λ _. true) (λ _. refl) old new rows h it.schema s.outbox it.entries.outbox
     (entries_rise out_row (λ (d : OutEntry). d.number) (λ _. refl) s.next_out s.outbox it.documents.1)
     ∙ each_shown (λ (d : OutEntry). d.detail) detail_row s.outbox
 
@@ -37,6 +38,8 @@ finds_receipt_stages old new rows h s r =
     let here = r.stands (shown_open receipt_stage_text [] old new rows h) in
     let way = here.way in
     let it = here.stands in
-    reads_rows way receipt_stage_text (receipt_stage_plain way) (receipt_stage_unlisted way) (inbox_tree way) [] receipt_stage_column_terms (codes "mdn" ∷ []) (receipt_stage_is way) [] in_row (λ (e : InEntry). receipt_stage_row e.receipt_stage) (λ _. refl) (λ _. true) (λ _. refl) old new rows h it.schema s.inbox it.entries.inbox
+    reads_rows way receipt_stage_text (receipt_stage_plain way) (receipt_stage_unlisted way) (inbox_tree way) [] receipt_stage_column_terms
+    (codes "mdn" ∷ []) (receipt_stage_is way) [] in_row (λ (e : InEntry). receipt_stage_row e.receipt_stage) (λ _. refl) (λ _. true)
+    (λ _. refl) old new rows h it.schema s.inbox it.entries.inbox
     (entries_rise in_row (λ (e : InEntry). e.number) (λ _. refl) s.next_in s.inbox it.receipts.1)
     ∙ each_shown (λ (e : InEntry). e.receipt_stage) receipt_stage_row s.inbox

@@ -39,12 +39,15 @@ module _ (wanted m : ℕ) where
     each (x ∷ xs) = go (kind_of x) (each xs)
       where
         go : (o : Option ℕ) → map (λ w. w.number) (filter is_wanted (filter_map row_of xs)) ≡ map number (filter is_due_so xs)
-            → map (λ w. w.number) (filter is_wanted (cons_option (option_map (λ kind. record { kind = kind; number = number x; due = due x }) o) (filter_map row_of xs))) ≡ map number (cond (waits_for wanted o && is_due m (due x)) (x ∷ filter is_due_so xs) (filter is_due_so xs))
+            → map (λ w. w.number) (filter is_wanted
+            (cons_option (option_map (λ kind. record { kind = kind; number = number x; due = due x }) o) (filter_map row_of xs))) ≡ map number
+            (cond (waits_for wanted o && is_due m (due x)) (x ∷ filter is_due_so xs) (filter is_due_so xs))
         go None rest = rest
         go (Some kind) rest = by (kind == wanted && is_due m (due x))
           where
             by : (t : Bool)
-                → map (λ w. w.number) (cond t (record { kind = kind; number = number x; due = due x } ∷ filter is_wanted (filter_map row_of xs)) (filter is_wanted (filter_map row_of xs))) ≡ map number (cond t (x ∷ filter is_due_so xs) (filter is_due_so xs))
+                → map (λ w. w.number) (cond t (record { kind = kind; number = number x; due = due x } ∷ filter is_wanted (filter_map row_of xs))
+                (filter is_wanted (filter_map row_of xs))) ≡ map number (cond t (x ∷ filter is_due_so xs) (filter is_due_so xs))
             by true = ap (λ l. number x ∷ l) rest
             by false = rest
 
@@ -54,8 +57,10 @@ module _ (wanted m : ℕ) where
   kept (w ∷ ws) = go (w.kind == wanted) refl (kept ws)
     where
       go : (t : Bool) → (w.kind == wanted) ≡ t → filter is_wanted (filter (λ w. w.kind == wanted) ws) ≡ filter is_wanted ws
-          → filter is_wanted (cond t (w ∷ filter (λ w. w.kind == wanted) ws) (filter (λ w. w.kind == wanted) ws)) ≡ cond ((w.kind == wanted) && is_due m w.due) (w ∷ filter is_wanted ws) (filter is_wanted ws)
-      go true is rest = ap (λ t. cond (t && is_due m w.due) (w ∷ filter is_wanted (filter (λ w. w.kind == wanted) ws)) (filter is_wanted (filter (λ w. w.kind == wanted) ws))) is
+          → filter is_wanted (cond t (w ∷ filter (λ w. w.kind == wanted) ws) (filter (λ w. w.kind == wanted) ws)) ≡ cond
+          ((w.kind == wanted) && is_due m w.due) (w ∷ filter is_wanted ws) (filter is_wanted ws)
+      go true is rest = ap (λ t. cond (t && is_due m w.due) (w ∷ filter is_wanted (filter (λ w. w.kind == wanted) ws))
+          (filter is_wanted (filter (λ w. w.kind == wanted) ws))) is
           ∙ ap (λ l. cond (is_due m w.due) (w ∷ l) l) rest
           ∙ sym (ap (λ t. cond (t && is_due m w.due) (w ∷ filter is_wanted ws) (filter is_wanted ws)) is)
       go false is rest = rest ∙ sym (ap (λ t. cond (t && is_due m w.due) (w ∷ filter is_wanted ws) (filter is_wanted ws)) is)
@@ -122,7 +127,9 @@ due_are_documents m s =
     ∙ ap₂ ◌++◌ (kept to_send m (waiting_out s.outbox))
     (filter-append (is_wanted to_send m) answer (hear ++ end)
     ∙ ap₂ ◌++◌ (none_wanted to_send m to_send_receipt refl answer (answers s.inbox))
-    (filter-append (is_wanted to_send m) hear end ∙ ap₂ ◌++◌ (none_wanted to_send m to_hear refl hear (of_kind to_hear (waiting_out s.outbox))) (none_wanted to_send m to_end refl end (of_kind to_end (waiting_out s.outbox)))))
+    (filter-append (is_wanted to_send m) hear end
+    ∙ ap₂ ◌++◌ (none_wanted to_send m to_hear refl hear (of_kind to_hear (waiting_out s.outbox)))
+    (none_wanted to_send m to_end refl end (of_kind to_end (waiting_out s.outbox)))))
     ∙ append-nil (filter (is_wanted to_send m) (waiting_out s.outbox)))
     ∙ each to_send m (λ (d : OutEntry). d.number) (λ d. out_kind d.detail d.attempt) (λ d. d.due) s.outbox
     ∙ ap (map (λ (d : OutEntry). d.number)) (filter_agree _ (is_due_document m) (λ d. ap (λ t. t && is_due m d.due) (sym (begins d.detail d.attempt))) s.outbox)
@@ -140,7 +147,8 @@ due_are_heard m s =
     ∙ ap₂ ◌++◌ (none_wanted to_hear m to_send refl send (of_kind to_send (waiting_out s.outbox)))
     (filter-append (is_wanted to_hear m) answer (hear ++ end)
     ∙ ap₂ ◌++◌ (none_wanted to_hear m to_send_receipt refl answer (answers s.inbox))
-    (filter-append (is_wanted to_hear m) hear end ∙ ap₂ ◌++◌ (kept to_hear m (waiting_out s.outbox)) (none_wanted to_hear m to_end refl end (of_kind to_end (waiting_out s.outbox)))))
+    (filter-append (is_wanted to_hear m) hear end
+    ∙ ap₂ ◌++◌ (kept to_hear m (waiting_out s.outbox)) (none_wanted to_hear m to_end refl end (of_kind to_end (waiting_out s.outbox)))))
     ∙ append-nil (filter (is_wanted to_hear m) (waiting_out s.outbox)))
     ∙ each to_hear m (λ (d : OutEntry). d.number) (λ d. out_kind d.detail d.attempt) (λ d. d.due) s.outbox
 
@@ -155,7 +163,8 @@ due_are_ended m s =
     ∙ ap₂ ◌++◌ (none_wanted to_end m to_send refl send (of_kind to_send (waiting_out s.outbox)))
     (filter-append (is_wanted to_end m) answer (hear ++ end)
     ∙ ap₂ ◌++◌ (none_wanted to_end m to_send_receipt refl answer (answers s.inbox))
-    (filter-append (is_wanted to_end m) hear end ∙ ap₂ ◌++◌ (none_wanted to_end m to_hear refl hear (of_kind to_hear (waiting_out s.outbox))) (kept to_end m (waiting_out s.outbox)))))
+    (filter-append (is_wanted to_end m) hear end
+    ∙ ap₂ ◌++◌ (none_wanted to_end m to_hear refl hear (of_kind to_hear (waiting_out s.outbox))) (kept to_end m (waiting_out s.outbox)))))
     ∙ each to_end m (λ (d : OutEntry). d.number) (λ d. out_kind d.detail d.attempt) (λ d. d.due) s.outbox
 
 -- ---- receipts
@@ -180,7 +189,10 @@ due_are_receipts m s =
     ∙ ap₂ ◌++◌ (none_wanted to_send_receipt m to_send refl send (of_kind to_send (waiting_out s.outbox)))
     (filter-append (is_wanted to_send_receipt m) answer (hear ++ end)
     ∙ ap (λ l. filter (is_wanted to_send_receipt m) answer ++ l)
-    (filter-append (is_wanted to_send_receipt m) hear end ∙ ap₂ ◌++◌ (none_wanted to_send_receipt m to_hear refl hear (of_kind to_hear (waiting_out s.outbox))) (none_wanted to_send_receipt m to_end refl end (of_kind to_end (waiting_out s.outbox)))))
+    (filter-append (is_wanted to_send_receipt m) hear end
+    ∙ ap₂ ◌++◌ (none_wanted to_send_receipt m to_hear refl hear (of_kind to_hear (waiting_out s.outbox)))
+    (none_wanted to_send_receipt m to_end refl end (of_kind to_end (waiting_out s.outbox)))))
     ∙ append-nil (filter (is_wanted to_send_receipt m) answer))
     ∙ each to_send_receipt m (λ (e : InEntry). e.number) (λ e. in_kind e.receipt_stage e.attempt) (λ e. e.due) s.inbox
-    ∙ ap (map (λ (e : InEntry). e.number)) (filter_agree _ (is_due_receipt m) (λ e. ap (λ t. t && is_due m e.due) (sym (receipt_begins e.receipt_stage e.attempt))) s.inbox)
+    ∙ ap (map (λ (e : InEntry). e.number))
+    (filter_agree _ (is_due_receipt m) (λ e. ap (λ t. t && is_due m e.due) (sym (receipt_begins e.receipt_stage e.attempt))) s.inbox)

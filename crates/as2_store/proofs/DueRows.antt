@@ -58,11 +58,14 @@ abbrev is_between : ℕ → ℕ → WaitingRow → Bool
 is_between kind m w = nat_le (kind * end_of_numbers) (place w) && (nat_lt (place w) ((kind + 1) * end_of_numbers) && is_due m w.due)
 
 least_passes : (kind m : ℕ) (w : WaitingRow) → passes least_due_terms (least_params kind m) (waiting_row w) ≡ is_between kind m w
-least_passes kind m w = ap₂ ◌&&◌ (numbers_at_least (place w) (kind * end_of_numbers)) (ap₂ ◌&&◌ (numbers_below (place w) ((kind + 1) * end_of_numbers)) (ap (λ b. b && true) (has_come m w.due) ∙ and_true _))
+least_passes kind m w = ap₂ ◌&&◌ (numbers_at_least (place w) (kind * end_of_numbers))
+    (ap₂ ◌&&◌ (numbers_below (place w) ((kind + 1) * end_of_numbers)) (ap (λ b. b && true) (has_come m w.due) ∙ and_true _))
 
 -- so it is of the kind, since its number is one that is given
 same_kind : (kind m : ℕ) (w : WaitingRow) → w.number < end_of_numbers → is_between kind m w ≡ (w.kind == kind && is_due m w.due)
-same_kind kind m w small = joined (nat_le (kind * end_of_numbers) (place w)) (nat_lt (place w) ((kind + 1) * end_of_numbers)) (w.kind == kind) (is_due m w.due) (grind (arith, nat_tests, small))
+same_kind kind m w small =
+    joined (nat_le (kind * end_of_numbers) (place w)) (nat_lt (place w) ((kind + 1) * end_of_numbers)) (w.kind == kind) (is_due m w.due)
+    (grind (arith, nat_tests, small))
   where
     joined : (a b c d : Bool) → (a && b) ≡ c → (a && (b && d)) ≡ (c && d)
     joined true b c d is = ap (λ t. t && d) is
@@ -72,11 +75,17 @@ same_kind kind m w small = joined (nat_le (kind * end_of_numbers) (place w)) (na
 
 pub numbers_small : {layout : Layout} (t : Connected) (s : State) → Stands layout t.now s → AllByRecursion (λ w. w.number < end_of_numbers) (all_waiting s)
 numbers_small t s it =
-    let outs = all_weaken (λ k. k < s.next_out) (λ k. k < end_of_numbers) (λ k less. omega (arith, less, it.documents.0.most)) (map (λ (d : OutEntry). d.number) s.outbox) it.documents.1.below in
-    let ins = all_weaken (λ k. k < s.next_in) (λ k. k < end_of_numbers) (λ k less. omega (arith, less, it.receipts.0.most)) (map (λ (e : InEntry). e.number) s.inbox) it.receipts.1.below in
-    let of = λ (kind : ℕ). all_weaker (IsEvidenceAsked kind end_of_numbers) (λ w. w.number < end_of_numbers) (λ w is. is.1) (documents_waiting kind s.outbox) (documents_of kind end_of_numbers s.outbox outs) in
-    all-append (λ w. w.number < end_of_numbers) (documents_waiting to_send s.outbox) (waiting_in s.inbox ++ (documents_waiting to_hear s.outbox ++ documents_waiting to_end s.outbox)) (of to_send)
-    (all-append (λ w. w.number < end_of_numbers) (waiting_in s.inbox) (documents_waiting to_hear s.outbox ++ documents_waiting to_end s.outbox) (all_weaker (IsEvidenceAsked to_send_receipt end_of_numbers) (λ w. w.number < end_of_numbers) (λ w is. is.1) (waiting_in s.inbox) (ins_small end_of_numbers s.inbox ins))
+    let outs = all_weaken (λ k. k < s.next_out) (λ k. k < end_of_numbers) (λ k less. omega (arith, less, it.documents.0.most))
+    (map (λ (d : OutEntry). d.number) s.outbox) it.documents.1.below in
+    let ins = all_weaken (λ k. k < s.next_in) (λ k. k < end_of_numbers) (λ k less. omega (arith, less, it.receipts.0.most))
+    (map (λ (e : InEntry). e.number) s.inbox) it.receipts.1.below in
+    let of = λ (kind : ℕ). all_weaker (IsEvidenceAsked kind end_of_numbers) (λ w. w.number < end_of_numbers) (λ w is. is.1)
+    (documents_waiting kind s.outbox) (documents_of kind end_of_numbers s.outbox outs) in
+    all-append (λ w. w.number < end_of_numbers) (documents_waiting to_send s.outbox)
+    (waiting_in s.inbox ++ (documents_waiting to_hear s.outbox ++ documents_waiting to_end s.outbox)) (of to_send)
+    (all-append (λ w. w.number < end_of_numbers) (waiting_in s.inbox) (documents_waiting to_hear s.outbox ++ documents_waiting to_end s.outbox)
+    (all_weaker (IsEvidenceAsked to_send_receipt end_of_numbers) (λ w. w.number < end_of_numbers) (λ w is. is.1) (waiting_in s.inbox)
+    (ins_small end_of_numbers s.inbox ins))
     (all-append (λ w. w.number < end_of_numbers) (documents_waiting to_hear s.outbox) (documents_waiting to_end s.outbox) (of to_hear) (of to_end)))
 
 of_the_kind : (kind m : ℕ) (ws : List WaitingRow) → AllByRecursion (λ w. w.kind ≡ kind) (filter (λ w. w.kind == kind && is_due m w.due) ws)
@@ -84,7 +93,8 @@ of_the_kind kind m [] = tt
 of_the_kind kind m (w ∷ ws) = go (w.kind == kind) refl (is_due m w.due) (of_the_kind kind m ws)
   where
     go : (t : Bool) → (w.kind == kind) ≡ t → (d : Bool) → AllByRecursion (λ w. w.kind ≡ kind) (filter (λ w. w.kind == kind && is_due m w.due) ws)
-        → AllByRecursion (λ w. w.kind ≡ kind) (cond (t && d) (w ∷ filter (λ w. w.kind == kind && is_due m w.due) ws) (filter (λ w. w.kind == kind && is_due m w.due) ws))
+        → AllByRecursion (λ w. w.kind ≡ kind)
+        (cond (t && d) (w ∷ filter (λ w. w.kind == kind && is_due m w.due) ws) (filter (λ w. w.kind == kind && is_due m w.due) ws))
     go true is true rest = ((grind (arith, nat_tests, is)), rest)
     go true is false rest = rest
     go false is d rest = rest
@@ -99,8 +109,11 @@ before m n is = let less = sym (value_cmp-Int (pos m) (pos n)) ∙ is in grind (
 numbers_rise : (kind : ℕ) (ws : List WaitingRow) → AllByRecursion (λ w. w.kind ≡ kind) ws → IsAscending IsEarlier ws
     → IsAscending (λ v w. v.number < w.number) ws
 numbers_rise kind [] of up = tt
-numbers_rise kind (w ∷ ws) of up =
-    (all_both (λ v. v.kind ≡ kind) (IsEarlier w) (λ v. w.number < v.number) (λ v is less. omega (arith, of.0, is, before (place w) (place v) less)) ws of.1 up.0, numbers_rise kind ws of.1 up.1)
+numbers_rise kind (w ∷ ws) of up = (
+  all_both (λ v. v.kind ≡ kind) (IsEarlier w) (λ v. w.number < v.number)
+      (λ v is less. omega (arith, of.0, is, before (place w) (place v) less)) ws of.1 up.0,
+  numbers_rise kind ws of.1 up.1,
+)
 
 -- ---- the least of numbers that rise
 
@@ -145,10 +158,15 @@ finds_none kind m old new rows h s r none =
     let here = r.stands (shown_open any_due_text (any_params kind m) old new rows h) in
     let way = here.way in
     let it = here.stands in
-    let read = reads_as any_due_text (any_params kind m) old new (store_schema way) it.schema (Select (record { lets = []; body = over_table waiting_tree any_due_terms due_columns [] (lit (Int (pos 1))) }) _) (any_due_is way) (any_due_plain way) (any_due_unlisted way) rows h in
+    let read = reads_as any_due_text (any_params kind m) old new (store_schema way) it.schema
+    (Select (record { lets = []; body = over_table waiting_tree any_due_terms due_columns [] (lit (Int (pos 1))) }) _) (any_due_is way)
+    (any_due_plain way) (any_due_unlisted way) rows h in
     let passed = none_passes waiting_tree any_due_terms due_columns old.now.trees (any_params kind m) rows read.answer none in
-    let same = sym (filter-map (passes any_due_terms (any_params kind m)) waiting_row (all_waiting s)) ∙ ap (filter (passes any_due_terms (any_params kind m))) (sym it.entries.waits) ∙ passed in
-    ap (map (λ w. w.number)) (sym (filter_agree (λ w. passes any_due_terms (any_params kind m) (waiting_row w)) (λ w. w.kind == kind && is_due m w.due) (any_passes kind m) (all_waiting s)) ∙ unmapped _ same)
+    let same = sym (filter-map (passes any_due_terms (any_params kind m)) waiting_row (all_waiting s))
+    ∙ ap (filter (passes any_due_terms (any_params kind m))) (sym it.entries.waits) ∙ passed in
+    ap (map (λ w. w.number))
+    (sym (filter_agree (λ w. passes any_due_terms (any_params kind m) (waiting_row w)) (λ w. w.kind == kind && is_due m w.due)
+    (any_passes kind m) (all_waiting s)) ∙ unmapped _ same)
   where
     unmapped : (ws : List WaitingRow) → map waiting_row ws ≡ [] → ws ≡ []
     unmapped [] is = refl
@@ -160,10 +178,14 @@ finds_least kind m old new rows h s r =
     let here = r.stands (shown_open least_due_text (least_params kind m) old new rows h) in
     let way = here.way in
     let it = here.stands in
-    let read = reads_as least_due_text (least_params kind m) old new (store_schema way) it.schema (Select (record { lets = []; body = over_table waiting_tree least_due_terms due_columns by_number (lit (Int (pos 1))) }) _) (least_due_is way) (least_due_plain way) (least_due_unlisted way) rows h in
+    let read = reads_as least_due_text (least_params kind m) old new (store_schema way) it.schema
+    (Select (record { lets = []; body = over_table waiting_tree least_due_terms due_columns by_number (lit (Int (pos 1))) }) _)
+    (least_due_is way) (least_due_plain way) (least_due_unlisted way) rows h in
     let table = places_in_order old.now s it in
     let up = ascending-filter _ (λ w. w.kind == kind && is_due m w.due) (all_waiting s) (ascending_from_map _ waiting_row (all_waiting s) table) in
-    shows_entries waiting_tree least_due_terms due_columns (lit (Int (pos 1))) old.now.trees (least_params kind m) rows waiting_row (is_between kind m) number_shown (least_passes kind m) (λ _. refl) (all_waiting s) it.entries.waits table read.answer
+    shows_entries waiting_tree least_due_terms due_columns (lit (Int (pos 1))) old.now.trees (least_params kind m) rows waiting_row
+    (is_between kind m) number_shown (least_passes kind m) (λ _. refl) (all_waiting s) it.entries.waits table read.answer
     ∙ ap (λ ws. take 1 (map number_shown ws)) (filter_same (is_between kind m) (λ w. w.kind == kind && is_due m w.due) (all_waiting s)
-    (all_weaker (λ w. w.number < end_of_numbers) (λ w. is_between kind m w ≡ (w.kind == kind && is_due m w.due)) (λ w small. same_kind kind m w small) (all_waiting s) (numbers_small old s it)))
+    (all_weaker (λ w. w.number < end_of_numbers) (λ w. is_between kind m w ≡ (w.kind == kind && is_due m w.due))
+    (λ w small. same_kind kind m w small) (all_waiting s) (numbers_small old s it)))
     ∙ first_shown (due_waiting kind m s) (numbers_rise kind (due_waiting kind m s) (of_the_kind kind m (all_waiting s)) up)

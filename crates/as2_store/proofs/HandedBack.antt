@@ -38,7 +38,8 @@ gives_back g old last end late commits inside survives leads autocommit back =
           let was_open = it.was_open opened in
           let kept = (inside.kept (was clean)).committed was_open ∙ committed in
           ((it.undone opened).0 ∙ kept, (it.undone opened).1 ∙ kept);
-      crash = survives_then (state g old) last (state g end) (λ _. ⊥) late commits (λ _ db none. absurd none) (λ clean db is. leads (omega (arith, survives.clean, clean)) db is)
+      crash = survives_then (state g old) last (state g end) (λ _. ⊥) late commits (λ _ db none. absurd none)
+          (λ clean db is. leads (omega (arith, survives.clean, clean)) db is)
           (survives_begin g old last (λ _. ⊥) inside.survives) survives;
     }
 
@@ -54,13 +55,15 @@ fails_by g old mid e (inr late) = absurd (let outside = late.3 in cc)
 
 says_inside : {S : Type 0} (g : Ghosts S) (old : Held S) (kind : List ℕ) (version : ℕ) → MetaSays (state g old) kind version
     → MetaSays (state g (record old { in_transaction = true })) kind version
-says_inside g old kind version it = record { next_receipt = it.next_receipt; next_document = it.next_document; tables = it.tables; indexes = it.indexes; schema = it.schema; meta = it.meta }
+says_inside g old kind version it =
+    record { next_receipt = it.next_receipt; next_document = it.next_document; tables = it.tables; indexes = it.indexes; schema = it.schema; meta = it.meta }
 
 pub row_fails : {S : Type 0} (g : Ghosts S) (old : Held S) (mid : Connected) (e : Error)
     → FailsToQuery meta_read_text [] (state g (record old { in_transaction = true })) mid e
     ⊎ IsTooLate meta_read_text [] (state g (record old { in_transaction = true })) mid e
     → (kind : List ℕ) (version : ℕ) → MetaSays (state g old) kind version → IsOutside e
-row_fails g old mid e (inl failed) kind version it = said_fails (state g (record old { in_transaction = true })) mid e kind version (says_inside g old kind version it) failed
+row_fails g old mid e (inl failed) kind version it =
+    said_fails (state g (record old { in_transaction = true })) mid e kind version (says_inside g old kind version it) failed
 row_fails g old mid e (inr late) kind version it = absurd (let outside = late.3 in cc)
 
 pub row_shown : {S : Type 0} (g : Ghosts S) (old : Held S) (mid : Connected) (rows : List Row)
@@ -68,7 +71,8 @@ pub row_shown : {S : Type 0} (g : Ghosts S) (old : Held S) (mid : Connected) (ro
     → (it : MetaSays (state g old) kind version)
     → rows ≡ meta_cells kind version it.next_receipt it.next_document ∷ []
 unfolding says_inside
-row_shown g old mid rows shown kind version it = reads_said (state g (record old { in_transaction = true })) mid rows shown kind version (says_inside g old kind version it)
+row_shown g old mid rows shown kind version it =
+    reads_said (state g (record old { in_transaction = true })) mid rows shown kind version (says_inside g old kind version it)
 
 -- a fault from outside is one that may come, whatever the tables are
 pub comes : (c : Connected) (f : StoreFault) → may_come f ≡ true → IsReason c f
@@ -80,7 +84,11 @@ pub unread_by : {S : Type 0} (g : Ghosts S) (old : Held S) (mid : Connected) (e 
     ⊎ IsTooLate meta_read_text [] (state g (record old { in_transaction = true })) mid e
     → (IsOutside e → may_come f ≡ true) → (may_come f ≡ true) ⊎ (f ≡ NotAStore) → IsReason (state g old) f
 unread_by g old mid e f failed outside known = record {
-  of_store = λ s r. elim (fails_by g old mid e failed) [ inl out ↦ outside out | inr opened ↦ outside (row_fails g old mid e failed (codes "as2-station") current_number (says_held (state g old) s (r.stands opened))) ];
+  of_store = λ s r. elim (fails_by g old mid e failed) [
+    | inl out ↦ outside out
+    | inr opened ↦ outside
+        (row_fails g old mid e failed (codes "as2-station") current_number (says_held (state g old) s (r.stands opened)))
+  ];
   of_row = λ kind version it. inl (outside (row_fails g old mid e failed kind version it));
   of_blank = λ blank. known;
 }
@@ -109,7 +117,9 @@ said_by g old mid rows f shown says tables =
     record {
       of_store = λ s r.
           let it = says_held (state g old) s (r.stands opened) in
-          let none : Some f ≡ None = says (codes "as2-station") current_number it.next_receipt it.next_document (row_shown g old mid rows shown (codes "as2-station") current_number it) in
+          let none : Some f ≡ None =
+          says (codes "as2-station") current_number it.next_receipt it.next_document
+          (row_shown g old mid rows shown (codes "as2-station") current_number it) in
           absurd cc;
       of_row = λ kind version it. inr (sym (says kind version it.next_receipt it.next_document (row_shown g old mid rows shown kind version it)));
       of_blank = λ blank. absurd (tables (ap (λ (k : Schema). k.tables) (blank.no_table opened)));
@@ -127,7 +137,8 @@ adopts g old mid end rows a it was shown says tables = record {
   clean = it.clean;
   is_open = it.is_open;
   done = it.done;
-  adoption_fault = λ clean kind version said. sym (says kind version said.next_receipt said.next_document (row_shown g old mid rows (shown (was clean)) kind version said));
+  adoption_fault = λ clean kind version said. sym
+      (says kind version said.next_receipt said.next_document (row_shown g old mid rows (shown (was clean)) kind version said));
   no_blank = λ clean blank. tables (ap (λ (k : Schema). k.tables) (blank.no_table (it.was_open clean)));
   crash = it.crash;
 }

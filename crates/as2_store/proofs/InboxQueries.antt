@@ -32,15 +32,18 @@ use Rattle.as2_store.proofs.QueriedRows.{reads_rows, and_true}
 use Rattle.as2_store.proofs.Texts.{in_column_terms, in_names, key_terms, number_terms, in_by_number_is, in_by_number_plain, in_by_number_unlisted, in_by_key_is, in_by_key_plain, in_by_key_unlisted, in_all_is, in_all_plain, in_all_unlisted}
 
 -- a query over the inbox, in the order of the numbers
-module _ (sql : List ℕ) (plain : (way : Way) → IsPlain (understood (store_schema way) sql)) (unlisted : (way : Way) → reads_listing (store_schema way) sql ≡ false) (terms : List Term)
-    (is : (way : Way) → command_of (understood (store_schema way) sql) ≡ Select (record { lets = []; body = over_table (inbox_tree way) terms in_column_terms by_number (lit (Int (negsuc 0))) }) in_names) (params : Row)
+module _ (sql : List ℕ) (plain : (way : Way) → IsPlain (understood (store_schema way) sql))
+    (unlisted : (way : Way) → reads_listing (store_schema way) sql ≡ false) (terms : List Term)
+    (is : (way : Way) → command_of (understood (store_schema way) sql) ≡ Select
+    (record { lets = []; body = over_table (inbox_tree way) terms in_column_terms by_number (lit (Int (negsuc 0))) }) in_names) (params : Row)
     (p : InEntry → Bool) (same : (e : InEntry) → passes terms params (in_row e) ≡ p e) where
   reads_entries : (old new : Connected) (rows : List Row) → Shown sql params old new rows → (s : State) → Rests old s → rows ≡ map in_shown (filter p s.inbox)
   reads_entries old new rows h s r =
       let here = r.stands (shown_open sql params old new rows h) in
       let way = here.way in
       let it = here.stands in
-      reads_rows way sql (plain way) (unlisted way) (inbox_tree way) terms in_column_terms in_names (is way) params in_row in_shown (λ _. refl) p same old new rows h it.schema s.inbox it.entries.inbox
+      reads_rows way sql (plain way) (unlisted way) (inbox_tree way) terms in_column_terms in_names (is way) params in_row in_shown
+      (λ _. refl) p same old new rows h it.schema s.inbox it.entries.inbox
       (entries_rise in_row (λ (e : InEntry). e.number) (λ _. refl) s.next_in s.inbox it.receipts.1)
 
 abbrev pub key_params : List ℕ → List ℕ → List ℕ → Row
@@ -50,12 +53,15 @@ of_key : (sender receiver value : List ℕ) (e : InEntry)
     → passes key_terms (key_params sender receiver value) (in_row e) ≡ has_key sender receiver value e.posted
 unfolding value_of
 of_key sender receiver value e =
-    ap₂ ◌&&◌ (blobs_equal e.posted.sender sender) (ap₂ ◌&&◌ (blobs_equal e.posted.receiver receiver) (ap (λ b. b && true) (blobs_equal (value_of e.posted.id) value) ∙ and_true _))
+    ap₂ ◌&&◌ (blobs_equal e.posted.sender sender)
+    (ap₂ ◌&&◌ (blobs_equal e.posted.receiver receiver) (ap (λ b. b && true) (blobs_equal (value_of e.posted.id) value) ∙ and_true _))
 
 pub finds_key : (sender receiver value : List ℕ) (old new : Connected) (rows : List Row)
     → Shown in_by_key_text (key_params sender receiver value) old new rows → (s : State) → Rests old s
     → rows ≡ map in_shown (filter (λ (e : InEntry). has_key sender receiver value e.posted) s.inbox)
-finds_key sender receiver value = reads_entries in_by_key_text in_by_key_plain in_by_key_unlisted key_terms in_by_key_is (key_params sender receiver value) (λ (e : InEntry). has_key sender receiver value e.posted) (of_key sender receiver value)
+finds_key sender receiver value =
+    reads_entries in_by_key_text in_by_key_plain in_by_key_unlisted key_terms in_by_key_is (key_params sender receiver value)
+    (λ (e : InEntry). has_key sender receiver value e.posted) (of_key sender receiver value)
 
 abbrev pub by_number_params : ℕ → Row
 by_number_params n = Int (pos n) ∷ []
@@ -63,7 +69,8 @@ by_number_params n = Int (pos n) ∷ []
 -- a number that is never given may stand for any that is never given
 same_test : (n w m : ℕ) → (end_of_numbers ≤ n → w ≡ end_of_numbers) → (n < end_of_numbers → w ≡ n) → m < end_of_numbers → (m == w) ≡ (m == n)
 same_test n w m beyond within small = elim (cases_Bool (nat_le end_of_numbers n)) [
-  | inl high ↦ let past : end_of_numbers ≤ n = grind (arith, nat_tests) in ap (λ k. m == k) (beyond past) ∙ other m end_of_numbers small ∙ sym (other m n (omega (arith, small, past)))
+  | inl high ↦ let past : end_of_numbers ≤ n = grind (arith, nat_tests) in ap (λ k. m == k) (beyond past) ∙ other m end_of_numbers small
+      ∙ sym (other m n (omega (arith, small, past)))
   | inr low ↦ let under : n < end_of_numbers = grind (arith, nat_tests) in ap (λ k. m == k) (within under)
 ]
   where
@@ -87,16 +94,20 @@ pub finds_number : (n w : ℕ) → (end_of_numbers ≤ n → w ≡ end_of_number
     → rows ≡ map in_shown (filter (λ (e : InEntry). e.number == n) s.inbox)
 finds_number n w beyond within old new rows h s r =
     let it = (r.stands (shown_open in_by_number_text (by_number_params w) old new rows h)).stands in
-    let low = all_weaken (λ m. m < s.next_in) (λ m. m < end_of_numbers) (λ m less. omega (arith, less, it.receipts.0.most)) (map (λ (e : InEntry). e.number) s.inbox) it.receipts.1.below in
-    reads_entries in_by_number_text in_by_number_plain in_by_number_unlisted number_terms in_by_number_is (by_number_params w) (λ e. e.number == w) (λ e. ap (λ b. b && true) (numbers_equal e.number w) ∙ and_true _) old new rows h s r
-    ∙ ap (map in_shown) (filter_same (λ (e : InEntry). e.number == w) (λ (e : InEntry). e.number == n) s.inbox (same_tests (λ (e : InEntry). e.number) n w beyond within s.inbox low))
+    let low = all_weaken (λ m. m < s.next_in) (λ m. m < end_of_numbers) (λ m less. omega (arith, less, it.receipts.0.most))
+    (map (λ (e : InEntry). e.number) s.inbox) it.receipts.1.below in
+    reads_entries in_by_number_text in_by_number_plain in_by_number_unlisted number_terms in_by_number_is (by_number_params w) (λ e. e.number == w)
+    (λ e. ap (λ b. b && true) (numbers_equal e.number w) ∙ and_true _) old new rows h s r
+    ∙ ap (map in_shown) (filter_same (λ (e : InEntry). e.number == w) (λ (e : InEntry). e.number == n) s.inbox
+    (same_tests (λ (e : InEntry). e.number) n w beyond within s.inbox low))
 
 every : (es : List InEntry) → filter (λ _. true) es ≡ es
 every [] = refl
 every (e ∷ es) = ap (λ l. e ∷ l) (every es)
 
 pub lists_all : (old new : Connected) (rows : List Row) → Shown in_all_text [] old new rows → (s : State) → Rests old s → rows ≡ map in_shown s.inbox
-lists_all old new rows h s r = reads_entries in_all_text in_all_plain in_all_unlisted [] in_all_is [] (λ _. true) (λ _. refl) old new rows h s r ∙ ap (map in_shown) (every s.inbox)
+lists_all old new rows h s r = reads_entries in_all_text in_all_plain in_all_unlisted [] in_all_is [] (λ _. true) (λ _. refl) old new rows h s r
+    ∙ ap (map in_shown) (every s.inbox)
 
 -- ---- all rows, one after another
 

@@ -99,4 +99,5 @@ pub puts_in : (way : Way) (old new : Connected) (e : InEntry) (count : ℕ) → 
     → Executes in_put_text (in_shown e) old new (Ok count)
     → ChangesTable old new (store_schema way) (inbox_tree way) (put_row (in_row e) (old.now.trees (inbox_tree way)))
 puts_in way old new e count has h =
-    inserts_given in_put_text (in_shown e) old new (store_schema way) has (inbox_place way) (inbox_table way) (inbox_there way) refl in_put_terms 18 (in_row e) (one_in way e) refl (in_put_is way) (in_put_plain way) count h
+    inserts_given in_put_text (in_shown e) old new (store_schema way) has (inbox_place way) (inbox_table way)
+    (inbox_there way) refl in_put_terms 18 (in_row e) (one_in way e) refl (in_put_is way) (in_put_plain way) count h

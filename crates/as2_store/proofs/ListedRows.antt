@@ -33,12 +33,17 @@ pub leaves_nothing : (sql : List ℕ) (params : Row) (old new : Connected) → (
     → (HasCleanDisk old → IsTrue old.is_open) → Survives old new (CommitsShowing sql params old) → Survives old new (CommitsTables Some old)
 leaves_nothing sql params old new plain opened survives = survives_weaker old new (CommitsShowing sql params old) (CommitsTables Some old) (λ clean db shows.
     let was = opened (omega (arith, survives.clean, clean)) in
-    record { was_open = was; stands = λ s r. absurd (never_commits sql params old db (subst (λ k. IsPlain (understood k sql)) (sym (r.stands was).stands.schema) (plain (r.stands was).way)) shows) }) survives
+    record {
+      was_open = was;
+      stands = λ s r. absurd (never_commits sql params old db
+          (subst (λ k. IsPlain (understood k sql)) (sym (r.stands was).stands.schema) (plain (r.stands was).way)) shows);
+    }) survives
 
 -- ---- what is listed
 
 -- rows were given that show entries, if they show any, of which these are listed; and nothing has changed
-pub record HasListed {S X Y : Type 0} (g : Ghosts S) (sql : List ℕ) (params : Row) (shown : X → Row) (listed : List X → List Y) (old now : Held S) (ys : List Y) : Type 0 where
+pub record HasListed {S X Y : Type 0} (g : Ghosts S) (sql : List ℕ) (params : Row) (shown : X → Row) (listed : List X → List Y) (old now : Held S)
+    (ys : List Y) : Type 0 where
   pub given : List Row
   pub has : HasGiven g sql params now given
   pub same : IsUnchanged (state g old) (state g now)
@@ -62,7 +67,8 @@ module _ {S X Y : Type 0} (g : Ghosts S) (sql : List ℕ) (params : Row) (shown 
   pub none_listed : ((way : Way) → IsPlain (understood (store_schema way) sql)) → listed [] ≡ [] → (new : Held S) → HasBegun g sql params old new
       → IsTrue (state g old).is_open → (s : State) → Rests (state g old) s → HasListed g sql params shown listed old new []
   none_listed plain none new begun opened s r =
-      let both = begun_plain g sql params old new (subst (λ k. IsPlain (understood k sql)) (sym (r.stands opened).stands.schema) (plain (r.stands opened).way)) begun in
+      let both = begun_plain g sql params old new
+      (subst (λ k. IsPlain (understood k sql)) (sym (r.stands opened).stands.schema) (plain (r.stands opened).way)) begun in
       record { given = []; has = both.0; same = both.1; read = λ xs all. empty xs all }
     where
       empty : (xs : List X) → [] ≡ map shown xs → [] ≡ listed xs
@@ -77,7 +83,8 @@ module _ {S X Y : Type 0} (g : Ghosts S) (sql : List ℕ) (params : Row) (shown 
       given = it.given ++ row ∷ [];
       has = goes sql params it.given it.has;
       same = unchanged_then (state g old) (state g mid) (state g new) it.same same;
-      read = λ xs all. let last = split shown it.given row xs all in subst (λ l. zs ≡ listed l) (sym last.2) (more last.0 last.1 last.4 (it.read last.0 last.3));
+      read = λ xs all. let last =
+          split shown it.given row xs all in subst (λ l. zs ≡ listed l) (sym last.2) (more last.0 last.1 last.4 (it.read last.0 last.3));
     }
 
     -- no row more: those were all
@@ -112,4 +119,5 @@ lists_none fits old new f survives same = record {
 -- a step that leaves nothing more to a crash
 pub still_nothing : (old mid new : Connected) → Survives old mid (CommitsTables Some old) → Survives mid new (λ _. ⊥)
     → Survives old new (CommitsTables Some old)
-still_nothing old mid new one two = survives_then old mid new (CommitsTables Some old) (λ _. ⊥) (CommitsTables Some old) (λ _ db is. is) (λ _ db none. absurd none) one two
+still_nothing old mid new one two =
+    survives_then old mid new (CommitsTables Some old) (λ _. ⊥) (CommitsTables Some old) (λ _ db is. is) (λ _ db none. absurd none) one two

@@ -50,8 +50,11 @@ accepts tables indexes = refl
 
 stops : (tables : List Table) (indexes : List Index) (limit : Option ℕ) (db : Database) (e : Error) → db.schema ≡ with_meta_first tables indexes
     → RefusesToRead limit meta_command db [] e → e ≡ SqliteFailure OperationInterrupted
-stops tables indexes limit db e has (inl typed) = absurd (true≢false (sym (accepts tables indexes) ∙ ap (λ s. accepts_program s [] (over_table meta_tree [] meta_columns [] (lit (Int (negsuc 0)))) []) (sym has) ∙ typed.1))
-stops tables indexes limit db e has (inr (inl over)) = absurd (elim over.1 [ inl group ↦ group | inr fold ↦ no_fold_overflows (overlay db.trees []) (inner meta_tree end) ([] ∷ []) refl fold ])
+stops tables indexes limit db e has (inl typed) =
+    absurd (true≢false (sym (accepts tables indexes)
+    ∙ ap (λ s. accepts_program s [] (over_table meta_tree [] meta_columns [] (lit (Int (negsuc 0)))) []) (sym has) ∙ typed.1))
+stops tables indexes limit db e has (inr (inl over)) =
+    absurd (elim over.1 [ inl group ↦ group | inr fold ↦ no_fold_overflows (overlay db.trees []) (inner meta_tree end) ([] ∷ []) refl fold ])
 stops tables indexes limit db e has (inr (inr stop)) = stop.0
 
 -- where the row is there, it can be read but for a cause from outside
@@ -63,8 +66,10 @@ said_fails old new e kind version it h =
     (subst (λ s. HasParameters meta_read_text 0 (understood s meta_read_text)) (sym has) (takes it.tables it.indexes))
     (λ c db is source refused.
     let command : c.command ≡ meta_command = ap command_of (sym is ∙ ap (λ s. understood s meta_read_text) has) ∙ meta_read_is it.tables it.indexes in
-    let same : db ≡ old.now = subst (λ b. IsSourceOf b old.now db) (ap (λ s. reads_listing s meta_read_text) has ∙ meta_read_unlisted it.tables it.indexes) source in
-    stops it.tables it.indexes old.step_limit db e (ap (λ (d : Database). d.schema) same ∙ has) (subst (λ k. RefusesToRead old.step_limit k db [] e) command refused))
+    let same : db ≡ old.now =
+    subst (λ b. IsSourceOf b old.now db) (ap (λ s. reads_listing s meta_read_text) has ∙ meta_read_unlisted it.tables it.indexes) source in
+    stops it.tables it.indexes old.step_limit db e (ap (λ (d : Database). d.schema) same ∙ has)
+    (subst (λ k. RefusesToRead old.step_limit k db [] e) command refused))
     h
 
 abbrev pub meta_cells : List ℕ → ℕ → ℕ → ℕ → Row
@@ -74,9 +79,11 @@ meta_cells kind version n m = Text kind ∷ whole version ∷ whole n ∷ whole 
 pub reads_said : (old new : Connected) (rows : List Row) → Shown meta_read_text [] old new rows → (kind : List ℕ) (version : ℕ)
     → (it : MetaSays old kind version) → rows ≡ meta_cells kind version it.next_receipt it.next_document ∷ []
 reads_said old new rows h kind version it =
-    let read = reads_as meta_read_text [] old new (with_meta_first it.tables it.indexes) it.schema meta_command (meta_read_is it.tables it.indexes) (meta_read_plain it.tables it.indexes) (meta_read_unlisted it.tables it.indexes) rows h in
+    let read = reads_as meta_read_text [] old new (with_meta_first it.tables it.indexes) it.schema meta_command (meta_read_is it.tables it.indexes)
+    (meta_read_plain it.tables it.indexes) (meta_read_unlisted it.tables it.indexes) rows h in
     let all = in_any_order meta_tree [] meta_columns old.now.trees [] rows read.answer in
-    one_permutation (meta_cells kind version it.next_receipt it.next_document) rows (subst (λ l. IsPermutation (map (shown_of meta_columns []) (chosen_rows [] [] l)) rows) it.meta all)
+    one_permutation (meta_cells kind version it.next_receipt it.next_document) rows
+    (subst (λ l. IsPermutation (map (shown_of meta_columns []) (chosen_rows [] [] l)) rows) it.meta all)
 
 -- the tables of a store say its kind and its version
 unfoldable pub says_of : (layout : Layout) (c : Connected) (s : State) → Stands layout c.now s → MetaSays c (codes "as2-station") (number_of layout)
@@ -95,7 +102,8 @@ says_held c s it = says_of (VersionThree it.way) c s it.stands
 pub reads_meta : (old new : Connected) (rows : List Row) → Shown meta_read_text [] old new rows → (s : State) → Rests old s
     → rows ≡ meta_shown current_number s.next_in s.next_out ∷ []
 unfolding says_of says_held
-reads_meta old new rows h s r = reads_said old new rows h (codes "as2-station") current_number (says_held old s (r.stands (shown_open meta_read_text [] old new rows h)))
+reads_meta old new rows h s r =
+    reads_said old new rows h (codes "as2-station") current_number (says_held old s (r.stands (shown_open meta_read_text [] old new rows h)))
 
 -- ---- raising its counter
 
@@ -110,7 +118,8 @@ pub counts_receipts : (way : Way) (old new : Connected) (number count n m : ℕ)
     → HasCounters way old.now n m → count ≢ 0
     → (number ≡ n) × ChangesTable old new (store_schema way) meta_tree (meta_row current_number (number + 1) m ∷ [])
 counts_receipts way old new number count n m h has some =
-    let done = updates receipt_text (raise_params number) old new (store_schema way) has.schema 0 meta_table refl receipt_terms receipt_project (λ _. pos 1) (λ k. meta_row current_number k m) (λ _. refl) (λ _. meta_row current_number (number + 1) m) (λ _. refl) (λ _. simp cast_int)
+    let done = updates receipt_text (raise_params number) old new (store_schema way) has.schema 0 meta_table refl receipt_terms receipt_project
+    (λ _. pos 1) (λ k. meta_row current_number k m) (λ _. refl) (λ _. meta_row current_number (number + 1) m) (λ _. refl) (λ _. simp cast_int)
     (n ∷ []) has.meta (tt, tt) (quiet way meta_tree) (receipt_is way) (receipt_plain way) count h in
     go (passes receipt_terms (raise_params number) (meta_row current_number n m)) (ap (λ b. b && true) (numbers_equal n number) ∙ and_true _) done.0 done.1
   where
@@ -124,7 +133,8 @@ pub counts_documents : (way : Way) (old new : Connected) (number count n m : ℕ
     → HasCounters way old.now n m → count ≢ 0
     → (number ≡ m) × ChangesTable old new (store_schema way) meta_tree (meta_row current_number n (number + 1) ∷ [])
 counts_documents way old new number count n m h has some =
-    let done = updates document_text (raise_params number) old new (store_schema way) has.schema 0 meta_table refl document_terms document_project (λ _. pos 1) (λ k. meta_row current_number n k) (λ _. refl) (λ _. meta_row current_number n (number + 1)) (λ _. refl) (λ _. simp cast_int)
+    let done = updates document_text (raise_params number) old new (store_schema way) has.schema 0 meta_table refl document_terms document_project
+    (λ _. pos 1) (λ k. meta_row current_number n k) (λ _. refl) (λ _. meta_row current_number n (number + 1)) (λ _. refl) (λ _. simp cast_int)
     (m ∷ []) has.meta (tt, tt) (quiet way meta_tree) (document_is way) (document_plain way) count h in
     go (passes document_terms (raise_params number) (meta_row current_number n m)) (ap (λ b. b && true) (numbers_equal m number) ∙ and_true _) done.0 done.1
   where

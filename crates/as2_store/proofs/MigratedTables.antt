@@ -119,21 +119,26 @@ module _ (s : State) (from : IsCounted s) where
   pub copies_inbox : (b c : Connected) (count : ℕ) → IsBeside b.now s → Executes copy_inbox_text [] b c (Ok count)
       → ChangesTable b c (store_schema Migrated) (inbox_tree Migrated) (map in_row s.inbox)
   copies_inbox b c count it h =
-      let copied = copies copy_inbox_text [] b c (store_schema Migrated) it.schema 7 (inbox_table Migrated) refl refl refl _ copy_inbox_is copy_inbox_plain count h in
+      let copied = copies copy_inbox_text [] b c (store_schema Migrated) it.schema 7
+      (inbox_table Migrated) refl refl refl _ copy_inbox_is copy_inbox_plain count h in
       let table = entries_rise in_row (λ (e : InEntry). e.number) (λ _. refl) s.next_in s.inbox from.receipts.1 in
       let shown : copied.sources ≡ map in_row s.inbox =
-      shows_entries first_inbox_tree [] copy_inbox_terms (lit (Int (negsuc 0))) b.now.trees [] copied.sources in_row (λ _. true) in_row (λ _. refl) (λ _. refl) s.inbox it.entries.inbox table
-      (none_compared first_inbox_tree [] copy_inbox_terms by_number _ (overlay b.now.trees []) [] copied.sources copied.answers.answer) ∙ ap (map in_row) (every s.inbox) in
+      shows_entries first_inbox_tree [] copy_inbox_terms (lit (Int (negsuc 0))) b.now.trees [] copied.sources in_row (λ _. true) in_row (λ _. refl)
+      (λ _. refl) s.inbox it.entries.inbox table
+      (none_compared first_inbox_tree [] copy_inbox_terms by_number _ (overlay b.now.trees []) [] copied.sources copied.answers.answer)
+      ∙ ap (map in_row) (every s.inbox) in
       let rows = b.now.trees (inbox_tree Migrated) in
       copied.changed (map in_row s.inbox)
       (ap (λ l. put_all rows (numbered Chosen rows l)) (ap (map (λ r. cast_row (inbox_table Migrated) r)) shown ∙ cast_entries s.inbox)
-      ∙ puts_in_order in_row (λ (e : InEntry). e.number) (λ _. refl) rows s.inbox it.no_inbox (numbers_rise (λ (e : InEntry). e.number) s.next_in s.inbox from.receipts.1))
+      ∙ puts_in_order in_row (λ (e : InEntry). e.number) (λ _. refl) rows s.inbox it.no_inbox
+      (numbers_rise (λ (e : InEntry). e.number) s.next_in s.inbox from.receipts.1))
 
   clears_inbox : (b c : Connected) (count : ℕ) → b.now.schema ≡ store_schema Migrated → b.now.trees first_inbox_tree ≡ map in_row s.inbox
       → Executes clear_inbox_text [] b c (Ok count) → ChangesTable b c (store_schema Migrated) first_inbox_tree []
   clears_inbox b c count has there h =
       let table = entries_rise in_row (λ (e : InEntry). e.number) (λ _. refl) s.next_in s.inbox from.receipts.1 in
-      let done = deletes clear_inbox_text [] b c (store_schema Migrated) has 1 first_inbox_table refl [] (λ (e : InEntry). pos e.number) in_row (λ _. refl) s.inbox there table (quiet Migrated first_inbox_tree) clear_inbox_is clear_inbox_plain count h in
+      let done = deletes clear_inbox_text [] b c (store_schema Migrated) has 1 first_inbox_table refl [] (λ (e : InEntry). pos e.number) in_row
+      (λ _. refl) s.inbox there table (quiet Migrated first_inbox_tree) clear_inbox_is clear_inbox_plain count h in
       subst (ChangesTable b c (store_schema Migrated) first_inbox_tree) (ap (map in_row) (none_left s.inbox)) done.0
 
   pub copied_inbox : (a b : Connected) (i : ℕ) → Executes copy_inbox_text [] a b (Ok i) → IsBeside a.now s → AreShared b.now s
@@ -211,7 +216,8 @@ pub makes_third : (way : Way) (a b : Connected) (count : ℕ) (s : State) → St
     → StandsBut 2 way b.now s
 makes_third Fresh a b count s it h =
     let has = it.entries in
-    let m = makes_table resent_text a b (schema_of (VersionTwo Fresh)) it.schema resent_made resent_is (second_plain Fresh) refl (second_create Fresh).0 (second_create Fresh).1 count h in
+    let m = makes_table resent_text a b (schema_of (VersionTwo Fresh)) it.schema resent_made resent_is (second_plain Fresh) refl
+    (second_create Fresh).0 (second_create Fresh).1 count h in
     let o = m.others in
     record {
       schema = m.schema_is;
@@ -232,7 +238,8 @@ makes_third Fresh a b count s it h =
     }
 makes_third Migrated a b count s it h =
     let has = it.entries in
-    let m = makes_table resent_text a b (schema_of (VersionTwo Migrated)) it.schema resent_made resent_is (second_plain Migrated) refl (second_create Migrated).0 (second_create Migrated).1 count h in
+    let m = makes_table resent_text a b (schema_of (VersionTwo Migrated)) it.schema resent_made resent_is (second_plain Migrated) refl
+    (second_create Migrated).0 (second_create Migrated).1 count h in
     let o = m.others in
     record {
       schema = m.schema_is;
@@ -258,7 +265,8 @@ pub raises_version : (way : Way) (a b : Connected) (number next_in next_out coun
     → a.now.trees meta_tree ≡ meta_row number next_in next_out ∷ [] → Executes version_text [] a b (Ok count)
     → ChangesTable a b (store_schema way) meta_tree (meta_row current_number next_in next_out ∷ [])
 raises_version way a b number next_in next_out count has there h =
-    (updates version_text [] a b (store_schema way) has 0 meta_table refl [] version_project (λ _. pos 1) (λ (k : ℕ). meta_row k next_in next_out) (λ _. refl) (λ _. meta_row current_number next_in next_out) (λ _. refl) (λ _. simp cast_int)
+    (updates version_text [] a b (store_schema way) has 0 meta_table refl [] version_project (λ _. pos 1) (λ (k : ℕ). meta_row k next_in next_out)
+    (λ _. refl) (λ _. meta_row current_number next_in next_out) (λ _. refl) (λ _. simp cast_int)
     (number ∷ []) there (tt, tt) (quiet way meta_tree) (version_is way) (version_plain way) count h).0
 
 pub stands_raised : (number : ℕ) (way : Way) (a b : Connected) (s : State) → StandsBut number way a.now s

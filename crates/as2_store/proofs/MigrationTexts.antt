@@ -86,7 +86,8 @@ abbrev pub copy_inbox_terms : List Term
 copy_inbox_terms =
     col 1 0 ∷ lit Null ∷ col 1 2 ∷ col 1 3 ∷ col 1 4 ∷ col 1 5 ∷ col 1 6 ∷ col 1 7 ∷ col 1 8 ∷ col 1 9 ∷ col 1 10 ∷ col 1 11 ∷ col 1 12 ∷ col 1 13 ∷ col 1 14 ∷ col 1 15 ∷ col 1 16 ∷ col 1 17 ∷ []
 
-pub copy_inbox_is : command_of (understood (store_schema Migrated) copy_inbox_text) ≡ Insert 7 (Query (copy_of first_inbox_tree [] copy_inbox_terms by_number (map (λ _. Binary) copy_inbox_terms)))
+pub copy_inbox_is : command_of (understood (store_schema Migrated) copy_inbox_text) ≡ Insert 7
+    (Query (copy_of first_inbox_tree [] copy_inbox_terms by_number (map (λ _. Binary) copy_inbox_terms)))
 unfolding understood everything
 copy_inbox_is = refl
 
@@ -97,7 +98,8 @@ copy_inbox_plain = (refl, refl)
 abbrev pub copy_piece_terms : List Term
 copy_piece_terms = lit Null ∷ col 1 1 ∷ col 1 2 ∷ col 1 3 ∷ []
 
-pub copy_piece_is : command_of (understood (store_schema Migrated) copy_piece_text) ≡ Insert 8 (Query (copy_of first_piece_tree [] copy_piece_terms [] (map (λ _. Binary) copy_piece_terms)))
+pub copy_piece_is : command_of (understood (store_schema Migrated) copy_piece_text) ≡ Insert 8
+    (Query (copy_of first_piece_tree [] copy_piece_terms [] (map (λ _. Binary) copy_piece_terms)))
 unfolding understood everything
 copy_piece_is = refl
 
@@ -109,7 +111,8 @@ copy_piece_plain = (refl, refl)
 abbrev pub below_terms : List Term
 below_terms = op2 (Compare Lt Binary) (col 1 1) (col 0 0) ∷ []
 
-pub copy_below_is : command_of (understood (store_schema Migrated) copy_below_text) ≡ Insert 8 (Query (copy_of first_piece_tree below_terms copy_piece_terms [] (map (λ _. Binary) copy_piece_terms)))
+pub copy_below_is : command_of (understood (store_schema Migrated) copy_below_text) ≡ Insert 8
+    (Query (copy_of first_piece_tree below_terms copy_piece_terms [] (map (λ _. Binary) copy_piece_terms)))
 unfolding understood everything
 copy_below_is = refl
 

@@ -55,12 +55,16 @@ module _ (copying clearing : List ℕ) (terms : List Term) (params : Row) (p : P
       → HasRows (b.now.trees first_piece_tree) (map piece_shown left) → HasRows (b.now.trees (inbox_piece_tree Migrated)) (map piece_shown moved)
       → Executes copying params b c (Ok count) → ArePut b c (moved ++ filter p left)
   puts_pieces b c count moved left has there held h =
-      let copied = copies copying params b c (store_schema Migrated) has 8 (inbox_piece_table Migrated) refl refl (append-nil params) _ texts.copies_is texts.copies_plain count h in
-      let all = in_any_order first_piece_tree terms copy_piece_terms b.now.trees params copied.sources (none_compared first_piece_tree terms copy_piece_terms [] texts.by (overlay b.now.trees []) params copied.sources copied.answers.answer) in
+      let copied = copies copying params b c (store_schema Migrated) has 8 (inbox_piece_table Migrated) refl refl
+      (append-nil params) _ texts.copies_is texts.copies_plain count h in
+      let all = in_any_order first_piece_tree terms copy_piece_terms b.now.trees params copied.sources
+      (none_compared first_piece_tree terms copy_piece_terms [] texts.by (overlay b.now.trees []) params copied.sources copied.answers.answer) in
       record {
         rows = _;
         changed = copied.changed _ refl;
-        are = puts_picked piece_shown terms params p texts.tests (inbox_piece_table Migrated) first_piece_tree copy_piece_terms b.now.trees copied.sources left there (λ n x. refl) cast_piece all (b.now.trees (inbox_piece_tree Migrated)) moved held;
+        are = puts_picked piece_shown terms params p texts.tests
+            (inbox_piece_table Migrated) first_piece_tree copy_piece_terms b.now.trees copied.sources left there (λ n x. refl) cast_piece all
+            (b.now.trees (inbox_piece_tree Migrated)) moved held;
       }
 
   record AreLeft (b c : Connected) (all : List Piece) : Type 0 where
@@ -73,7 +77,9 @@ module _ (copying clearing : List ℕ) (terms : List Term) (params : Row) (p : P
       → AreLeft b c (filter (λ x. not (p x)) left)
   takes_pieces b c count left has there h =
       let it = are_under piece_shown (b.now.trees first_piece_tree) left there in
-      let done = deletes clearing params b c (store_schema Migrated) has 2 first_piece_table refl terms (λ (y : ℤ × Piece). y.0) (under piece_shown) (λ _. refl) it.entries it.rows_are (subst IsTable it.rows_are there.rise) (quiet Migrated first_piece_tree) texts.clears_is texts.clears_plain count h in
+      let done = deletes clearing params b c (store_schema Migrated) has 2 first_piece_table refl terms (λ (y : ℤ × Piece). y.0)
+      (under piece_shown) (λ _. refl) it.entries it.rows_are (subst IsTable it.rows_are there.rise)
+      (quiet Migrated first_piece_tree) texts.clears_is texts.clears_plain count h in
       record { rows = _; changed = done.0; are = keeps_rest piece_shown terms params p texts.tests (b.now.trees first_piece_tree) left there it }
 
   pub moves_pieces : (a b c : Connected) (i j : ℕ) (s : State) → Executes copying params a b (Ok i) → Executes clearing params b c (Ok j) → AreShared a.now s
@@ -147,14 +153,20 @@ unfolding moves_pieces moves_rest
 moved_rest a b c i j s one two it =
     let done = moves_pieces copy_piece_text clear_piece_text [] [] (λ _. true) moves_rest a b c i j s one two it in
     let none : done.left ≡ [] = none_left it.left in
-    let all : IsPermutation done.moved (inbox_pieces s.inbox) = subst (λ l. IsPermutation l (inbox_pieces s.inbox)) (ap (λ l. done.moved ++ l) none ∙ append-nil done.moved) done.all in
+    let all : IsPermutation done.moved (inbox_pieces s.inbox) =
+    subst (λ l. IsPermutation l (inbox_pieces s.inbox)) (ap (λ l. done.moved ++ l) none ∙ append-nil done.moved) done.all in
     let rows = done.contents in
     record {
       schema = done.schema;
       meta = done.meta;
       entries = record {
         inbox = done.inbox;
-        inbox_contents = record { numbered = rows.numbered; rows_are = rows.rows_are; rise = rows.rise; columns = IsPermutation-trans _ _ _ rows.columns (IsPermutation-map piece_shown _ _ all) };
+        inbox_contents = record {
+          numbered = rows.numbered;
+          rows_are = rows.rows_are;
+          rise = rows.rise;
+          columns = IsPermutation-trans _ _ _ rows.columns (IsPermutation-map piece_shown _ _ all);
+        };
         outbox = done.outbox;
         outbox_contents = done.outbox_contents;
         evidence = done.evidence;

@@ -15,7 +15,7 @@ use Rattle.sql_tables.specs.Changes.{IsOutside}
 use Rattle.sql_tables.proofs.Inside.{shown_open, shown_same}
 use Rattle.as2_exchange.specs.State.{State}
 use Rattle.as2_exchange.specs.declared.fault.StoreFault.{StoreFault}
-use Rattle.as2_exchange.specs.declared.fault.StoreFault.TheVariants.{Memory, Disk, Refused, Full, NotAStore, OtherVersion}
+use Rattle.as2_exchange.specs.declared.fault.StoreFault.TheVariants.{Memory, Disk, Refused, Damaged, Full, NotAStore, OtherVersion}
 use Rattle.as2_records.specs.Standing.{may_come}
 use Rattle.as2_store.specs.Calls.{IsInside, Keeps, KeepsNextTables}
 use Rattle.as2_store.specs.Migrating.{CommitsMigrated, IsMigrationReason, StandsForMigrated, Migrates, RestsAs, is_full, migrated_from, migration_fault}
@@ -35,7 +35,8 @@ pub record MovesEach {S : Type 0} (g : Ghosts S) (old : Held S) (last : Connecte
 
 -- what the row says of an earlier version
 abbrev pub Tells : List Row → ℕ → ℕ → Type 0
-Tells rows version next = (kind : List ℕ) (said n m : ℕ) → rows ≡ meta_cells kind said n m ∷ [] → (migration_fault kind said ≡ None) × (said ≡ version) × (next ≡ n)
+Tells rows version next = (kind : List ℕ) (said n m : ℕ) → rows ≡ meta_cells kind said n m ∷ [] → (migration_fault kind said ≡ None)
+    × (said ≡ version) × (next ≡ n)
 
 pub moves_each : {S : Type 0} (g : Ghosts S) (old : Held S) (mid last : Connected) (rows : List Row) (version next : ℕ)
     → (HasCleanDisk last → HasCleanDisk mid) → (HasCleanDisk mid → Shown meta_read_text [] (state g (record old { in_transaction = true })) mid rows)
@@ -52,8 +53,10 @@ moves_each g old mid last rows version next was shows told moved clean =
       was_open = opened;
       reaches = λ layout s r.
           let stood = r.stands opened in
-          let same = shown_same meta_read_text [] begun mid rows (subst (λ k. IsPlain (understood k meta_read_text)) (sym stood.schema) (meta_read_plain (behind_meta layout) (indexes_of layout))) shown in
-          let says = told (codes "as2-station") (number_of layout) s.next_in s.next_out (row_shown g old mid rows shown (codes "as2-station") (number_of layout) (says_of layout (state g old) s stood)) in
+          let same = shown_same meta_read_text [] begun mid rows
+          (subst (λ k. IsPlain (understood k meta_read_text)) (sym stood.schema) (meta_read_plain (behind_meta layout) (indexes_of layout))) shown in
+          let says = told (codes "as2-station") (number_of layout) s.next_in s.next_out
+          (row_shown g old mid rows shown (codes "as2-station") (number_of layout) (says_of layout (state g old) s stood)) in
           moved clean layout s (subst (λ (d : Database). Stands layout d s) (sym same.0.now_is) stood) says.1 says.2;
     }
 
@@ -84,12 +87,17 @@ migrates g old mid last end rows version next inside survives was_mid shows told
             state = to.state;
             is = to.is;
             rests = rests_committed last (state g end) to.state to.holds shown;
-            lasts = record { each = λ db may. subst (λ (t : Trees). Keeps t to.state) (sym (settled db shown.is_open may ∙ ap (λ (d : Database). d.trees) shown.committed_is)) (keeps_of last.now to.state to.holds) };
+            lasts = record {
+              each = λ db may. subst (λ (t : Trees). Keeps t to.state)
+                  (sym (settled db shown.is_open may ∙ ap (λ (d : Database). d.trees) shown.committed_is)) (keeps_of last.now to.state to.holds);
+            };
           };
-      migration_fault = λ clean kind said it. (told kind said it.next_receipt it.next_document (row_shown g old mid rows (shows (was_mid (was clean))) kind said it)).0;
+      migration_fault = λ clean kind said it.
+          (told kind said it.next_receipt it.next_document (row_shown g old mid rows (shows (was_mid (was clean))) kind said it)).0;
       no_blank = λ clean blank. tables (ap (λ (k : Schema). k.tables) (blank.no_table (each (was clean)).was_open));
       crash = survives_then (state g old) last (state g end) (λ _. ⊥) (λ db. db ≡ last.now.trees) (CommitsMigrated (state g old)) (λ _ db none. absurd none)
-          (λ clean db is. moved_commits g old last (each (omega (arith, survives.clean, clean))) db is) (survives_begin g old last (λ _. ⊥) inside.survives) survives;
+          (λ clean db is. moved_commits g old last (each (omega (arith, survives.clean, clean))) db is)
+          (survives_begin g old last (λ _. ⊥) inside.survives) survives;
     }
 
 -- ---- why tables aren't migrated
@@ -98,12 +106,18 @@ never_full : (f : StoreFault) → may_come f ≡ true → is_full f ≡ false
 never_full Memory is = refl
 never_full Disk is = refl
 never_full Refused is = refl
+never_full (Damaged place) is = refl
 never_full Full is = absurd cc
 never_full NotAStore is = refl
 never_full OtherVersion is = refl
 
 pub any_fault : (old : Connected) (f : StoreFault) → may_come f ≡ true → IsMigrationReason old f
-any_fault old f is = record { not_full = never_full f is; of_earlier = λ layout s next r to. is; of_row = λ kind version it. inl is; of_blank = λ blank. inl is }
+any_fault old f is = record {
+  not_full = never_full f is;
+  of_earlier = λ layout s next r to. is;
+  of_row = λ kind version it. inl is;
+  of_blank = λ blank. inl is;
+}
 
 pub unread_row : {S : Type 0} (g : Ghosts S) (old : Held S) (mid : Connected) (e : Error) (f : StoreFault)
     → FailsToQuery meta_read_text [] (state g (record old { in_transaction = true })) mid e
@@ -111,7 +125,12 @@ pub unread_row : {S : Type 0} (g : Ghosts S) (old : Held S) (mid : Connected) (e
     → (IsOutside e → may_come f ≡ true) → (may_come f ≡ true) ⊎ (f ≡ NotAStore) → IsMigrationReason (state g old) f
 unread_row g old mid e f failed outside known = record {
   not_full = elim known [ inl comes ↦ never_full f comes | inr none ↦ ap is_full none ];
-  of_earlier = λ layout s next r to. elim (fails_by g old mid e failed) [ inl out ↦ outside out | inr opened ↦ outside (row_fails g old mid e failed (codes "as2-station") (number_of layout) (says_of layout (state g old) s (r.stands opened))) ];
+  of_earlier = λ layout s next r to. elim
+      (fails_by g old mid e failed) [
+        | inl out ↦ outside out
+        | inr opened ↦ outside
+            (row_fails g old mid e failed (codes "as2-station") (number_of layout) (says_of layout (state g old) s (r.stands opened)))
+      ];
   of_row = λ kind version it. inl (outside (row_fails g old mid e failed kind version it));
   of_blank = λ blank. known;
 }
@@ -140,7 +159,9 @@ none_said (VersionThree way) s next to = absurd cc
 pub says_in : (slice rows : List Row) (f : StoreFault) → slice ≡ rows → (may_come f ≡ true)
     ⊎ ((kind : List ℕ) (version n m : ℕ) → slice ≡ meta_cells kind version n m ∷ [] → migration_fault kind version ≡ Some f)
     → (may_come f ≡ true) ⊎ ((kind : List ℕ) (version n m : ℕ) → rows ≡ meta_cells kind version n m ∷ [] → migration_fault kind version ≡ Some f)
-says_in slice rows f same it = subst (λ (l : List Row). (may_come f ≡ true) ⊎ ((kind : List ℕ) (version n m : ℕ) → l ≡ meta_cells kind version n m ∷ [] → migration_fault kind version ≡ Some f)) same it
+says_in slice rows f same it =
+    subst (λ (l : List Row). (may_come f ≡ true)
+    ⊎ ((kind : List ℕ) (version n m : ℕ) → l ≡ meta_cells kind version n m ∷ [] → migration_fault kind version ≡ Some f)) same it
 
 pub row_says : {S : Type 0} (g : Ghosts S) (old : Held S) (mid : Connected) (rows : List Row) (f : StoreFault)
     → Shown meta_read_text [] (state g (record old { in_transaction = true })) mid rows
@@ -149,7 +170,8 @@ pub row_says : {S : Type 0} (g : Ghosts S) (old : Held S) (mid : Connected) (row
 row_says g old mid rows f shown (inl is) known tables = any_fault (state g old) f is
 row_says g old mid rows f shown (inr says) known tables =
     let opened = shown_open meta_read_text [] (state g (record old { in_transaction = true })) mid rows shown in
-    let said = λ (kind : List ℕ) (version : ℕ) (it : MetaSays (state g old) kind version). says kind version it.next_receipt it.next_document (row_shown g old mid rows shown kind version it) in
+    let said = λ (kind : List ℕ) (version : ℕ) (it : MetaSays (state g old) kind version). says kind version it.next_receipt it.next_document
+    (row_shown g old mid rows shown kind version it) in
     record {
       not_full = known;
       of_earlier = λ layout s next r to.

@@ -43,11 +43,27 @@ module _ {E : Type 0} (number : E → ℕ) where
           → (length (filter (λ (x : E). number x == n) es) ≢ 0 → Split n es) → Split n (e ∷ es)
       go true is some later =
           let here : number e ≡ n = grind (arith, nat_tests) in
-          record { front = []; one = e; back = es; whole = refl; here = here; low = tt; high = subst (λ k. AllByRecursion (λ (x : E). k < number x) es) here up.0 }
+          record {
+            front = [];
+            one = e;
+            back = es;
+            whole = refl;
+            here = here;
+            low = tt;
+            high = subst (λ k. AllByRecursion (λ (x : E). k < number x) es) here up.0;
+          }
       go false is some later =
           let it = later some in
           let less = at_one (λ x. number e < number x) it.front it.one it.back (subst (AllByRecursion (λ (x : E). number e < number x)) it.whole up.0) in
-          record { front = e ∷ it.front; one = it.one; back = it.back; whole = ap (λ l. e ∷ l) it.whole; here = it.here; low = (omega (arith, less, it.here), it.low); high = it.high }
+          record {
+            front = e ∷ it.front;
+            one = it.one;
+            back = it.back;
+            whole = ap (λ l. e ∷ l) it.whole;
+            here = it.here;
+            low = (omega (arith, less, it.here), it.low);
+            high = it.high;
+          }
 
   -- ---- a change of the entry of one number
 

@@ -19,7 +19,9 @@ reads_origin old new rows h s r =
     let here = r.stands (shown_open origin_read_text [] old new rows h) in
     let way = here.way in
     let it = here.stands in
-    let read = reads_as origin_read_text [] old new (store_schema way) it.schema (origin_command way) (origin_read_is way) (origin_read_plain way) (origin_read_unlisted way) rows h in
+    let read = reads_as origin_read_text [] old new (store_schema way) it.schema (origin_command way) (origin_read_is way) (origin_read_plain way)
+    (origin_read_unlisted way) rows h in
     let all = in_any_order (origin_tree way) [] origin_column_terms old.now.trees [] rows read.answer in
-    one_permutation (number_row it.version.number) rows (subst (λ l. IsPermutation (map (shown_of origin_column_terms []) (chosen_rows [] [] l)) rows) it.version.rows_are all)
+    one_permutation (number_row it.version.number) rows
+    (subst (λ l. IsPermutation (map (shown_of origin_column_terms []) (chosen_rows [] [] l)) rows) it.version.rows_are all)
     ∙ ap (λ v. number_row (origin_of v) ∷ []) (sym it.version.version_is)

@@ -38,7 +38,8 @@ finds_id value old new rows h s r =
     let here = r.stands (shown_open out_by_id_text (id_params value) old new rows h) in
     let way = here.way in
     let it = here.stands in
-    reads_rows way out_by_id_text (out_by_id_plain way) (out_by_id_unlisted way) outbox_tree id_terms out_column_terms out_names (out_by_id_is way) (id_params value) out_row out_shown (λ _. refl) (has_id value)
+    reads_rows way out_by_id_text (out_by_id_plain way) (out_by_id_unlisted way) outbox_tree id_terms out_column_terms out_names (out_by_id_is way)
+    (id_params value) out_row out_shown (λ _. refl) (has_id value)
     (λ d. ap (λ b. b && true) (blobs_equal (without_brackets d.id) value) ∙ and_true _) old new rows h it.schema s.outbox it.entries.outbox
     (entries_rise out_row (λ (d : OutEntry). d.number) (λ _. refl) s.next_out s.outbox it.documents.1)
 
@@ -49,11 +50,14 @@ finds_document n w beyond within old new rows h s r =
     let here = r.stands (shown_open out_by_number_text (by_number_params w) old new rows h) in
     let way = here.way in
     let it = here.stands in
-    let low = all_weaken (λ m. m < s.next_out) (λ m. m < end_of_numbers) (λ m less. omega (arith, less, it.documents.0.most)) (map (λ (d : OutEntry). d.number) s.outbox) it.documents.1.below in
-    reads_rows way out_by_number_text (out_by_number_plain way) (out_by_number_unlisted way) outbox_tree number_terms out_column_terms out_names (out_by_number_is way) (by_number_params w) out_row out_shown (λ _. refl) (λ d. d.number == w)
+    let low = all_weaken (λ m. m < s.next_out) (λ m. m < end_of_numbers) (λ m less. omega (arith, less, it.documents.0.most))
+    (map (λ (d : OutEntry). d.number) s.outbox) it.documents.1.below in
+    reads_rows way out_by_number_text (out_by_number_plain way) (out_by_number_unlisted way) outbox_tree number_terms out_column_terms out_names
+    (out_by_number_is way) (by_number_params w) out_row out_shown (λ _. refl) (λ d. d.number == w)
     (λ d. ap (λ b. b && true) (numbers_equal d.number w) ∙ and_true _) old new rows h it.schema s.outbox it.entries.outbox
     (entries_rise out_row (λ (d : OutEntry). d.number) (λ _. refl) s.next_out s.outbox it.documents.1)
-    ∙ ap (map out_shown) (filter_same (λ (d : OutEntry). d.number == w) (λ (d : OutEntry). d.number == n) s.outbox (same_tests (λ (d : OutEntry). d.number) n w beyond within s.outbox low))
+    ∙ ap (map out_shown) (filter_same (λ (d : OutEntry). d.number == w) (λ (d : OutEntry). d.number == n) s.outbox
+    (same_tests (λ (d : OutEntry). d.number) n w beyond within s.outbox low))
 
 -- ---- the evidence
 
@@ -115,9 +119,11 @@ receipts_at n [] apart = refl
 receipts_at n (d ∷ ds) apart = go (d.number == n) refl (receipts_at n ds apart.1)
   where
     go : (t : Bool) → (d.number == n) ≡ t → of_number n (receipts ds) ≡ cons_option (option_map (evidence_in n) (settled_at n ds)) []
-        → of_number n (cons_option (receipt_row d) (receipts ds)) ≡ cons_option (option_map (evidence_in n) (option_and_then (λ (x : OutEntry). x.evidence) (cond t (Some d) (find (λ (x : OutEntry). x.number == n) ds)))) []
+        → of_number n (cons_option (receipt_row d) (receipts ds)) ≡ cons_option
+        (option_map (evidence_in n) (option_and_then (λ (x : OutEntry). x.evidence) (cond t (Some d) (find (λ (x : OutEntry). x.number == n) ds)))) []
     go true is later =
-        subst (λ k. of_number k (cons_option (receipt_row d) (receipts ds)) ≡ cons_option (option_map (evidence_in k) d.evidence) []) (number_is d.number n is) (own_first d.number d.evidence (receipts ds) (of_others d.number ds apart.0))
+        subst (λ k. of_number k (cons_option (receipt_row d) (receipts ds)) ≡ cons_option (option_map (evidence_in k) d.evidence) [])
+        (number_is d.number n is) (own_first d.number d.evidence (receipts ds) (of_others d.number ds apart.0))
     go false is later = other_first d.number n d.evidence (receipts ds) is ∙ later
 
 -- no document has a number that is never given
@@ -125,7 +131,8 @@ none_settled : (n : ℕ) (ds : List OutEntry) → AllByRecursion (λ m. m < end_
     → settled_at n ds ≡ None
 none_settled n [] low past = refl
 none_settled n (d ∷ ds) low past =
-    ap (λ t. option_and_then (λ (x : OutEntry). x.evidence) (cond t (Some d) (find (λ (x : OutEntry). x.number == n) ds))) (other d.number n low.0 past) ∙ none_settled n ds low.1 past
+    ap (λ t. option_and_then (λ (x : OutEntry). x.evidence) (cond t (Some d) (find (λ (x : OutEntry). x.number == n) ds)))
+    (other d.number n low.0 past) ∙ none_settled n ds low.1 past
   where
     other : (m n : ℕ) → m < end_of_numbers → end_of_numbers ≤ n → (m == n) ≡ false
     other m n less past = grind (arith, nat_tests)
@@ -138,7 +145,8 @@ own_evidence p ds d apart found = ap (option_and_then (λ (x : OutEntry). x.evid
 -- and its row alone
 pub own_receipt : (p : OutEntry → Bool) (ds : List OutEntry) (d : OutEntry) → IsDistinct (λ a b. a == b) (map (λ (x : OutEntry). x.number) ds)
     → find p ds ≡ Some d → of_number d.number (receipts ds) ≡ cons_option (receipt_row d) []
-own_receipt p ds d apart found = receipts_at d.number ds apart ∙ ap (λ o. cons_option (option_map (evidence_in d.number) o) []) (own_evidence p ds d apart found)
+own_receipt p ds d apart found = receipts_at d.number ds apart
+    ∙ ap (λ o. cons_option (option_map (evidence_in d.number) o) []) (own_evidence p ds d apart found)
 
 as_shown : (n : ℕ) (o : Option Evidence) → map shown_of_row (cons_option (option_map (evidence_in n) o) []) ≡ shown_evidence n o
 as_shown n None = refl
@@ -151,11 +159,17 @@ finds_evidence n w beyond within old new rows h s r =
     let here = r.stands (shown_open evidence_by_number_text (by_number_params w) old new rows h) in
     let way = here.way in
     let it = here.stands in
-    let low = all_weaken (λ m. m < s.next_out) (λ m. m < end_of_numbers) (λ m less. omega (arith, less, it.documents.0.most)) (map (λ (d : OutEntry). d.number) s.outbox) it.documents.1.below in
+    let low = all_weaken (λ m. m < s.next_out) (λ m. m < end_of_numbers) (λ m less. omega (arith, less, it.documents.0.most))
+    (map (λ (d : OutEntry). d.number) s.outbox) it.documents.1.below in
     go low (nat_lt n end_of_numbers) refl
-    (reads_rows way evidence_by_number_text (evidence_by_number_plain way) (evidence_by_number_unlisted way) evidence_tree number_terms evidence_column_terms evidence_names (evidence_by_number_is way) (by_number_params w) row_of shown_of_row (λ _. refl)
-    (λ r. r.number == w) (λ r. ap (λ b. b && true) (numbers_equal r.number w) ∙ and_true _) old new rows h it.schema (receipts s.outbox) (it.entries.evidence ∙ rows_of s.outbox)
-    (ordered_rise row_of (λ r. r.number) (λ _. refl) (receipts s.outbox) (given_rise receipt_row (λ (d : OutEntry). d.number) (λ r. r.number) kept s.outbox (numbers_rise (λ (d : OutEntry). d.number) s.next_out s.outbox it.documents.1)))
+    (reads_rows way evidence_by_number_text (evidence_by_number_plain way)
+    (evidence_by_number_unlisted way) evidence_tree number_terms evidence_column_terms evidence_names (evidence_by_number_is way)
+    (by_number_params w) row_of shown_of_row (λ _. refl)
+    (λ r. r.number == w) (λ r. ap (λ b. b && true) (numbers_equal r.number w) ∙ and_true _) old new rows h it.schema (receipts s.outbox)
+    (it.entries.evidence ∙ rows_of s.outbox)
+    (ordered_rise row_of (λ r. r.number) (λ _. refl) (receipts s.outbox)
+    (given_rise receipt_row (λ (d : OutEntry). d.number) (λ r. r.number) kept s.outbox
+    (numbers_rise (λ (d : OutEntry). d.number) s.next_out s.outbox it.documents.1)))
     ∙ ap (map shown_of_row) (receipts_at w s.outbox it.documents.1.distinct)
     ∙ as_shown w (settled_at w s.outbox))
   where
@@ -170,7 +184,8 @@ finds_evidence n w beyond within old new rows h s r =
     go low true is shown = subst (λ k. rows ≡ shown_evidence k (settled_at k s.outbox)) (within (given n is)) shown
     go low false is shown =
         let past = never n is in
-        shown ∙ ap (shown_evidence w) (none_settled w s.outbox low (subst (λ k. end_of_numbers ≤ k) (sym (beyond past)) (omega arith))) ∙ sym (ap (shown_evidence n) (none_settled n s.outbox low past))
+        shown ∙ ap (shown_evidence w) (none_settled w s.outbox low (subst (λ k. end_of_numbers ≤ k) (sym (beyond past)) (omega arith)))
+        ∙ sym (ap (shown_evidence n) (none_settled n s.outbox low past))
 
 -- ---- the first row of the evidence
 
@@ -187,4 +202,5 @@ some_evidence n (Some e) rows row all got = (e, refl, (let f = ap (λ l. slice_g
 
 pub document_is : (r : OutRow) (begun : Bool) (content : List ℕ) (e : Option Evidence) (d : OutEntry) → r ≡ out_summary d → begun ≡ d.begun
     → content ≡ d.content → e ≡ d.evidence → out_entry r begun content e ≡ d
-document_is r begun content e d row was whole settled = ap₂ (λ x y. out_entry x y content e) row was ∙ ap₂ (λ y z. out_entry (out_summary d) d.begun y z) whole settled
+document_is r begun content e d row was whole settled = ap₂ (λ x y. out_entry x y content e) row was
+    ∙ ap₂ (λ y z. out_entry (out_summary d) d.begun y z) whole settled

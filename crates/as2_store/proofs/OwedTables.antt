@@ -51,10 +51,12 @@ abbrev pub owed_params : ℕ → ReceiptProgress → Row
 owed_params n p = Int (pos n) ∷ whole (receipt_stage_code p.receipt_stage) ∷ whole p.tries ∷ whole (attempt_code p.attempt) ∷ whole_or_null p.due ∷ []
 
 as_rows : (n w : ℕ) (p : ReceiptProgress) (es : List InEntry) → AllByRecursion (λ (e : InEntry). (e.number == w) ≡ (e.number == n)) es
-    → map (λ (e : InEntry). cond (passes number_terms (owed_params w p) (in_row e)) (in_row (with_receipt_progress p e)) (in_row e)) es ≡ map in_row (changed in_number n (with_receipt_progress p) es)
+    → map (λ (e : InEntry). cond (passes number_terms (owed_params w p) (in_row e)) (in_row (with_receipt_progress p e))
+    (in_row e)) es ≡ map in_row (changed in_number n (with_receipt_progress p) es)
 as_rows n w p [] same = refl
 as_rows n w p (e ∷ es) same =
-    ap₂ ◌∷◌ (ap (λ t. cond t (in_row (with_receipt_progress p e)) (in_row e)) (ap (λ b. b && true) (numbers_equal e.number w) ∙ and_true _ ∙ same.0) ∙ by_case (e.number == n)) (as_rows n w p es same.1)
+    ap₂ ◌∷◌ (ap (λ t. cond t (in_row (with_receipt_progress p e)) (in_row e))
+    (ap (λ b. b && true) (numbers_equal e.number w) ∙ and_true _ ∙ same.0) ∙ by_case (e.number == n)) (as_rows n w p es same.1)
   where
     by_case : (t : Bool) → cond t (in_row (with_receipt_progress p e)) (in_row e) ≡ in_row (cond t (with_receipt_progress p e) e)
     by_case true = refl
@@ -65,12 +67,18 @@ pub sets_owed : {way : Way} (n w count : ℕ) (p : ReceiptProgress) → (end_of_
     → ChangesTable old new (store_schema way) (inbox_tree way) (map in_row (change_received s n (with_receipt_progress p)).inbox)
     × (count ≡ length (filter (λ (e : InEntry). e.number == n) s.inbox))
 sets_owed {way} n w count p beyond within old new s it h =
-    let low = all_weaken (λ k. k < s.next_in) (λ k. k < end_of_numbers) (λ k less. omega (arith, less, it.receipts.0.most)) (map (λ (e : InEntry). e.number) s.inbox) it.receipts.1.below in
+    let low = all_weaken (λ k. k < s.next_in) (λ k. k < end_of_numbers) (λ k less. omega (arith, less, it.receipts.0.most))
+    (map (λ (e : InEntry). e.number) s.inbox) it.receipts.1.below in
     let same = same_tests (λ (e : InEntry). e.number) n w beyond within s.inbox low in
-    let done = updates in_set_text (owed_params w p) old new (store_schema way) it.schema (inbox_place way) (inbox_table way) (inbox_there way) number_terms owed_project (λ (e : InEntry). pos e.number) in_row (λ _. refl) (λ (e : InEntry). in_row (with_receipt_progress p e)) (λ _. refl)
-    (λ e. simp (cast_int, cast_null, cast_optional, cast_url, cast_digest, cast_mic)) s.inbox it.entries.inbox (entries_rise in_row (λ (e : InEntry). e.number) (λ _. refl) s.next_in s.inbox it.receipts.1) (quiet way (inbox_tree way)) (in_set_is way) (in_set_plain way) count h in (
+    let done = updates in_set_text (owed_params w p) old new (store_schema way) it.schema (inbox_place way) (inbox_table way)
+    (inbox_there way) number_terms owed_project (λ (e : InEntry). pos e.number) in_row (λ _. refl)
+    (λ (e : InEntry). in_row (with_receipt_progress p e)) (λ _. refl)
+    (λ e. simp (cast_int, cast_null, cast_optional, cast_url, cast_digest, cast_mic)) s.inbox it.entries.inbox
+    (entries_rise in_row (λ (e : InEntry). e.number) (λ _. refl) s.next_in s.inbox it.receipts.1) (quiet way (inbox_tree way)) (in_set_is way)
+    (in_set_plain way) count h in (
       subst (ChangesTable old new (store_schema way) (inbox_tree way)) (as_rows n w p s.inbox same) done.0,
-      done.1 ∙ ap length (filter_same (λ (e : InEntry). passes number_terms (owed_params w p) (in_row e)) (λ (e : InEntry). e.number == w) s.inbox (of_number w p s.inbox) ∙ filter_same (λ (e : InEntry). e.number == w) (λ (e : InEntry). e.number == n) s.inbox same),
+      done.1 ∙ ap length (filter_same (λ (e : InEntry). passes number_terms (owed_params w p) (in_row e)) (λ (e : InEntry). e.number == w) s.inbox
+          (of_number w p s.inbox) ∙ filter_same (λ (e : InEntry). e.number == w) (λ (e : InEntry). e.number == n) s.inbox same),
     )
   where
     of_number : (w : ℕ) (p : ReceiptProgress) (es : List InEntry)
@@ -90,7 +98,8 @@ places_in_order d s it =
     let ds = numbers_rise (λ (x : OutEntry). x.number) s.next_out s.outbox it.documents.1 in
     let es = numbers_rise (λ (e : InEntry). e.number) s.next_in s.inbox it.receipts.1 in
     places_rise (documents_waiting to_send s.outbox) (waiting_in s.inbox) (documents_waiting to_hear s.outbox) (documents_waiting to_end s.outbox)
-    (documents_of to_send end_of_numbers s.outbox outs) (ins_small end_of_numbers s.inbox ins) (documents_of to_hear end_of_numbers s.outbox outs) (documents_of to_end end_of_numbers s.outbox outs)
+    (documents_of to_send end_of_numbers s.outbox outs) (ins_small end_of_numbers s.inbox ins) (documents_of to_hear end_of_numbers s.outbox outs)
+    (documents_of to_end end_of_numbers s.outbox outs)
     (documents_rise to_send s.outbox ds) (receipts_rise s.inbox es) (documents_rise to_hear s.outbox ds) (documents_rise to_end s.outbox ds)
 
 pub holds : (way : Way) (a b : Connected) (s : State) → Stands (VersionThree way) a.now s → (rows : List Row)
@@ -113,17 +122,23 @@ waiting_above n (e ∷ es) all = go (in_waiting e) (kind_is_last e.receipt_stage
 
 waits_on : (s : State) (n : ℕ) (p : ReceiptProgress) → n < end_of_numbers → AllByRecursion (λ k. k < end_of_numbers) (map (λ (d : OutEntry). d.number) s.outbox)
     → Split in_number n s.inbox
-    → noted_rows (answers_at n p) (map waiting_row (not_at (place_of to_send_receipt n) (all_waiting s))) ≡ map waiting_row (all_waiting (change_received s n (with_receipt_progress p)))
+    → noted_rows (answers_at n p) (map waiting_row (not_at (place_of to_send_receipt n) (all_waiting s))) ≡ map waiting_row
+    (all_waiting (change_received s n (with_receipt_progress p)))
 waits_on s n p small outs it =
     let send = documents_waiting to_send s.outbox in
     let late = documents_waiting to_hear s.outbox ++ documents_waiting to_end s.outbox in
-    let was : waiting_in s.inbox ≡ waiting_in it.front ++ cons_option (in_waiting it.one) (waiting_in it.back) = ap waiting_in it.whole ∙ filter_map-append in_waiting it.front (it.one ∷ it.back) in
+    let was : waiting_in s.inbox ≡ waiting_in it.front ++ cons_option (in_waiting it.one) (waiting_in it.back) = ap waiting_in it.whole
+    ∙ filter_map-append in_waiting it.front (it.one ∷ it.back) in
     let now : waiting_in (changed in_number n (with_receipt_progress p) s.inbox) ≡ waiting_in it.front ++ cons_option (answers_at n p) (waiting_in it.back) =
-    ap waiting_in (changed_split in_number n (with_receipt_progress p) s.inbox it) ∙ filter_map-append in_waiting it.front (with_receipt_progress p it.one ∷ it.back) ∙ ap (λ k. waiting_in it.front ++ cons_option (answers_at k p) (waiting_in it.back)) it.here in
+    ap waiting_in (changed_split in_number n (with_receipt_progress p) s.inbox it)
+    ∙ filter_map-append in_waiting it.front (with_receipt_progress p it.one ∷ it.back)
+    ∙ ap (λ k. waiting_in it.front ++ cons_option (answers_at k p) (waiting_in it.back)) it.here in
     ap (λ l. noted_rows (answers_at n p) (map waiting_row (not_at (place_of to_send_receipt n) (send ++ (l ++ late))))) was
-    ∙ renewed n (answers_at n p) (kind_is_last p.receipt_stage p.attempt n p.due) small (in_waiting it.one) (subst (λ k. IfSome (in_waiting it.one) (IsLast k)) it.here (kind_is_last it.one.receipt_stage it.one.attempt it.one.number it.one.due))
+    ∙ renewed n (answers_at n p) (kind_is_last p.receipt_stage p.attempt n p.due) small (in_waiting it.one)
+    (subst (λ k. IfSome (in_waiting it.one) (IsLast k)) it.here (kind_is_last it.one.receipt_stage it.one.attempt it.one.number it.one.due))
     send (waiting_in it.front) (waiting_in it.back) (documents_waiting to_hear s.outbox) (documents_waiting to_end s.outbox)
-    (documents_of to_send end_of_numbers s.outbox outs) (ins_small n it.front (all-map (λ k. k < n) (λ (e : InEntry). e.number) it.front it.low)) (waiting_above n it.back it.high)
+    (documents_of to_send end_of_numbers s.outbox outs) (ins_small n it.front (all-map (λ k. k < n) (λ (e : InEntry). e.number) it.front it.low))
+    (waiting_above n it.back it.high)
     (documents_of to_hear end_of_numbers s.outbox outs) (documents_of to_end end_of_numbers s.outbox outs)
     ∙ ap (λ l. map waiting_row (send ++ (l ++ late))) (sym now)
 
@@ -140,7 +155,8 @@ same_pieces n p (e ∷ es) = ap₂ ◌++◌ (by_case (e.number == n)) (same_piec
 
 same_numbers : (n : ℕ) (p : ReceiptProgress) (es : List InEntry)
     → map (λ (e : InEntry). e.number) (changed in_number n (with_receipt_progress p) es) ≡ map (λ (e : InEntry). e.number) es
-same_numbers n p es = map_kept (λ (e : InEntry). e.number) (λ (e : InEntry). cond (e.number == n) (with_receipt_progress p e) e) (λ e. by_case e (e.number == n)) es
+same_numbers n p es = map_kept (λ (e : InEntry). e.number) (λ (e : InEntry). cond (e.number == n) (with_receipt_progress p e) e)
+    (λ e. by_case e (e.number == n)) es
   where
     by_case : (e : InEntry) (t : Bool) → (cond t (with_receipt_progress p e) e).number ≡ e.number
     by_case e true = refl
@@ -159,7 +175,9 @@ stands_owed way a b c s n w p within it some one two =
     let k2 = keeping way AtWaiting b.now.trees c.now.trees two.others in
     let es = numbers_rise (λ (e : InEntry). e.number) s.next_in s.inbox it.receipts.1 in
     let found = split in_number n s.inbox es some in
-    let below = at_one (λ e. e.number < s.next_in) found.front found.one found.back (subst (AllByRecursion (λ (e : InEntry). e.number < s.next_in)) found.whole (all_from_map (λ k. k < s.next_in) (λ (e : InEntry). e.number) s.inbox it.receipts.1.below)) in
+    let below = at_one (λ e. e.number < s.next_in) found.front found.one found.back
+    (subst (AllByRecursion (λ (e : InEntry). e.number < s.next_in)) found.whole
+    (all_from_map (λ k. k < s.next_in) (λ (e : InEntry). e.number) s.inbox it.receipts.1.below)) in
     let small : n < end_of_numbers = omega (arith, below, found.here, it.receipts.0.most) in
     let outs = below_end s.next_out it.documents.0.most (map (λ (d : OutEntry). d.number) s.outbox) it.documents.1.below in
     record {
@@ -168,11 +186,13 @@ stands_owed way a b c s n w p within it some one two =
       meta = k2 AtMeta (λ e. omega arith) ∙ k1 AtMeta (λ e. omega arith) ∙ it.meta;
       entries = record {
         inbox = k2 AtInbox (λ e. omega arith) ∙ one.rows_are;
-        inbox_contents = subst (λ ps. HasRows (c.now.trees (inbox_piece_tree way)) (map piece_shown ps)) (sym (same_pieces n p s.inbox)) (unchanged (k2 AtInboxPiece (λ e. omega arith) ∙ k1 AtInboxPiece (λ e. omega arith)) has.inbox_contents);
+        inbox_contents = subst (λ ps. HasRows (c.now.trees (inbox_piece_tree way)) (map piece_shown ps)) (sym (same_pieces n p s.inbox))
+            (unchanged (k2 AtInboxPiece (λ e. omega arith) ∙ k1 AtInboxPiece (λ e. omega arith)) has.inbox_contents);
         outbox = k2 AtOutbox (λ e. omega arith) ∙ k1 AtOutbox (λ e. omega arith) ∙ has.outbox;
         outbox_contents = unchanged (k2 AtOutboxPiece (λ e. omega arith) ∙ k1 AtOutboxPiece (λ e. omega arith)) has.outbox_contents;
         evidence = k2 AtEvidence (λ e. omega arith) ∙ k1 AtEvidence (λ e. omega arith) ∙ has.evidence;
-        waits = two.rows_are ∙ ap (λ k. noted_rows (answers_at k p) (map waiting_row (not_at (place_of to_send_receipt k) (all_waiting s)))) (within small) ∙ waits_on s n p small outs found;
+        waits = two.rows_are ∙ ap (λ k. noted_rows (answers_at k p) (map waiting_row (not_at (place_of to_send_receipt k) (all_waiting s))))
+            (within small) ∙ waits_on s n p small outs found;
       };
       version = still_origin (k2 AtOrigin (λ e. omega arith) ∙ k1 AtOrigin (λ e. omega arith)) it.version;
       begun = still_resent (k2 AtResent (λ e. omega arith) ∙ k1 AtResent (λ e. omega arith)) it.begun;
@@ -184,7 +204,8 @@ stands_owed way a b c s n w p within it some one two =
 -- and where none has it, the state is as it was
 pub nothing_owed : (s : State) (n : ℕ) (p : ReceiptProgress) → length (filter (λ (e : InEntry). e.number == n) s.inbox) ≡ 0
     → change_received s n (with_receipt_progress p) ≡ s
-nothing_owed s n p none = ap (λ es. record s { inbox = es }) (changed_none in_number n (with_receipt_progress p) s.inbox (none_numbered in_number n s.inbox none))
+nothing_owed s n p none =
+    ap (λ es. record s { inbox = es }) (changed_none in_number n (with_receipt_progress p) s.inbox (none_numbered in_number n s.inbox none))
 
 -- the tables then stand for what they stood for
 pub stands_unnumbered : (way : Way) (a b : Connected) (s : State) (n : ℕ) (p : ReceiptProgress) → Stands (VersionThree way) a.now s
@@ -219,7 +240,9 @@ stands_unnumbered way a b s n p it none one =
 
 module _ {S : Type 0} (g : Ghosts S) (old : Held S) (mid : Connected) (n : ℕ) where
   abbrev Set : ReceiptProgress → ℕ → Type 0
-  Set p count = (way : Way) (s : State) → Stands (VersionThree way) (state g old).now s → ChangesTable (state g (record old { in_transaction = true })) mid (store_schema way) (inbox_tree way) (map in_row (change_received s n (with_receipt_progress p)).inbox) × (count ≡ length (filter (λ (e : InEntry). e.number == n) s.inbox))
+  Set p count = (way : Way) (s : State) → Stands (VersionThree way) (state g old).now s
+      → ChangesTable (state g (record old { in_transaction = true })) mid (store_schema way) (inbox_tree way)
+      (map in_row (change_received s n (with_receipt_progress p)).inbox) × (count ≡ length (filter (λ (e : InEntry). e.number == n) s.inbox))
 
   pub owes_none : (p : ReceiptProgress) (count : ℕ) → count ≡ 0 → (HasCleanDisk mid → IsTrue (state g old).is_open) → (HasCleanDisk mid → Set p count)
       → HasCleanDisk mid → FollowsEach g old mid (set_receipt_in n p)
@@ -227,8 +250,14 @@ module _ {S : Type 0} (g : Ghosts S) (old : Held S) (mid : Connected) (n : ℕ) 
     was_open = opened clean;
     reaches = λ s r.
         let here = r.stands (opened clean) in
-        let one = put clean here.way s here.stands in
-        (change_received s n (with_receipt_progress p), refl, record { way = here.way; stands = stands_unnumbered here.way (state g (record old { in_transaction = true })) mid s n p here.stands (sym one.1 ∙ none) one.0 });
+        let one = put clean here.way s here.stands in (
+          change_received s n (with_receipt_progress p),
+          refl,
+          record {
+            way = here.way;
+            stands = stands_unnumbered here.way (state g (record old { in_transaction = true })) mid s n p here.stands (sym one.1 ∙ none) one.0;
+          },
+        );
   }
 
   pub owes_some : (last : Connected) (w : ℕ) (p : ReceiptProgress) → (n < end_of_numbers → w ≡ n) → (count : ℕ) → count ≢ 0
@@ -243,6 +272,9 @@ module _ {S : Type 0} (g : Ghosts S) (old : Held S) (mid : Connected) (n : ℕ) 
         let here = r.stands (opened (was clean)) in
         let way = here.way in
         let one = put (was clean) way s here.stands in
-        let two = renewed clean way (all_waiting s) (holds way begun mid s here.stands _ one.0) in
-        (change_received s n (with_receipt_progress p), refl, record { way = way; stands = stands_owed way begun mid last s n w p within here.stands (λ none. some (one.1 ∙ none)) one.0 two });
+        let two = renewed clean way (all_waiting s) (holds way begun mid s here.stands _ one.0) in (
+          change_received s n (with_receipt_progress p),
+          refl,
+          record { way = way; stands = stands_owed way begun mid last s n w p within here.stands (λ none. some (one.1 ∙ none)) one.0 two },
+        );
   }

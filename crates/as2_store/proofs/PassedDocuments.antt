@@ -35,7 +35,9 @@ pub one_more_passed : (detail : Detail) (ns : List ℕ) (i none : ℕ) → i < l
     → passing_one detail (get_or ns i none) (passed_documents detail (take i ns) ds) ≡ passed_documents detail (take (i + 1) ns) ds
 one_more_passed detail ns i none within [] = refl
 one_more_passed detail ns i none within (d ∷ ds) =
-    ap₂ ◌∷◌ (by (list_any (λ k. d.number == k) (take i ns)) ∙ ap (λ t. cond t (passed_document d (Some detail)) d) (sym (list_any_more (λ k. d.number == k) ns i none within))) (one_more_passed detail ns i none within ds)
+    ap₂ ◌∷◌ (by (list_any (λ k. d.number == k) (take i ns))
+    ∙ ap (λ t. cond t (passed_document d (Some detail)) d) (sym (list_any_more (λ k. d.number == k) ns i none within)))
+    (one_more_passed detail ns i none within ds)
   where
     twice : (t : Bool)
         → cond t (passed_document (passed_document d (Some detail)) (Some detail)) (passed_document d (Some detail)) ≡ passed_document d (Some detail)
@@ -43,7 +45,9 @@ one_more_passed detail ns i none within (d ∷ ds) =
     twice false = refl
 
     by : (t : Bool)
-        → cond ((cond t (passed_document d (Some detail)) d).number == get_or ns i none) (passed_document (cond t (passed_document d (Some detail)) d) (Some detail)) (cond t (passed_document d (Some detail)) d) ≡ cond (t || (d.number == get_or ns i none)) (passed_document d (Some detail)) d
+        → cond ((cond t (passed_document d (Some detail)) d).number == get_or ns i none)
+        (passed_document (cond t (passed_document d (Some detail)) d) (Some detail)) (cond t (passed_document d (Some detail)) d) ≡ cond
+        (t || (d.number == get_or ns i none)) (passed_document d (Some detail)) d
     by true = twice (d.number == get_or ns i none)
     by false = refl
 
@@ -82,7 +86,8 @@ module _ (q : OutEntry → Bool) where
           × AllByRecursion (λ d. list_any (λ k. d.number == k) (map number_of (cond t (x ∷ filter q xs) (filter q xs))) ≡ q d) xs
       go true is rest = (
         ap (λ t. t || list_any (λ k. x.number == k) (numbers xs)) (itself x.number) ∙ sym is,
-        all_both (λ d. x.number < d.number) (λ d. list_any (λ k. d.number == k) (numbers xs) ≡ q d) (λ d. (d.number == x.number || list_any (λ k. d.number == k) (numbers xs)) ≡ q d)
+        all_both (λ d. x.number < d.number) (λ d. list_any (λ k. d.number == k) (numbers xs) ≡ q d)
+            (λ d. (d.number == x.number || list_any (λ k. d.number == k) (numbers xs)) ≡ q d)
             (λ d less same. ap (λ t. t || list_any (λ k. d.number == k) (numbers xs)) (other d.number less) ∙ same) xs up.0 rest,
       )
       go false is rest = (none_lower x.number xs up.0 ∙ sym is, rest)
@@ -121,7 +126,8 @@ module _ (detail : Detail) (q : OutEntry → Bool) where
   same_evidence (d ∷ ds) = ap₂ cons_option (by (q d)) (same_evidence ds)
     where
       by : (t : Bool)
-          → option_map (evidence_row (cond t (passed_document d (Some detail)) d).number) (cond t (passed_document d (Some detail)) d).evidence ≡ option_map (evidence_row d.number) d.evidence
+          → option_map (evidence_row (cond t (passed_document d (Some detail)) d).number)
+          (cond t (passed_document d (Some detail)) d).evidence ≡ option_map (evidence_row d.number) d.evidence
       by true = refl
       by false = refl
 
@@ -133,7 +139,8 @@ commute p r (w ∷ ws) = go (p w) refl (r w) refl (commute p r ws)
   where
     go : (t : Bool) → p w ≡ t → (u : Bool) → r w ≡ u → filter p (filter r ws) ≡ filter r (filter p ws)
         → filter p (cond u (w ∷ filter r ws) (filter r ws)) ≡ filter r (cond t (w ∷ filter p ws) (filter p ws))
-    go true is true out rest = ap (λ b. cond b (w ∷ filter p (filter r ws)) (filter p (filter r ws))) is ∙ ap (λ l. w ∷ l) rest ∙ sym (ap (λ b. cond b (w ∷ filter r (filter p ws)) (filter r (filter p ws))) out)
+    go true is true out rest = ap (λ b. cond b (w ∷ filter p (filter r ws)) (filter p (filter r ws))) is ∙ ap (λ l. w ∷ l) rest
+        ∙ sym (ap (λ b. cond b (w ∷ filter r (filter p ws)) (filter r (filter p ws))) out)
     go true is false out rest = rest ∙ sym (ap (λ b. cond b (w ∷ filter r (filter p ws)) (filter r (filter p ws))) out)
     go false is true out rest = ap (λ b. cond b (w ∷ filter p (filter r ws)) (filter p (filter r ws))) is ∙ rest
     go false is false out rest = rest
@@ -160,23 +167,28 @@ module _ (kind m : ℕ) (detail : Detail) (into : PassesInto kind detail) where
   left (d ∷ ds) = go (out_kind d.detail d.attempt) refl (left ds)
     where
       go : (o : Option ℕ) → out_kind d.detail d.attempt ≡ o → waiting_out (moved detail (over kind m) ds) ≡ without_due kind m (waiting_out ds)
-          → cons_option (out_waiting (cond (waits_for kind o && is_due m d.due) (passed_document d (Some detail)) d)) (waiting_out (moved detail (over kind m) ds)) ≡ without_due kind m (cons_option (row_at d o) (waiting_out ds))
+          → cons_option (out_waiting (cond (waits_for kind o && is_due m d.due) (passed_document d (Some detail)) d))
+          (waiting_out (moved detail (over kind m) ds)) ≡ without_due kind m (cons_option (row_at d o) (waiting_out ds))
       go None is same = ap (λ o. cons_option (row_at d o) (waiting_out (moved detail (over kind m) ds))) is ∙ same
       go (Some k) is same = by (k == kind && is_due m d.due)
         where
           by : (t : Bool) → cons_option (out_waiting (cond t (passed_document d (Some detail)) d)) (waiting_out (moved detail (over kind m) ds))
               ≡ cond (not t) (record { kind = k; number = d.number; due = d.due } ∷ without_due kind m (waiting_out ds)) (without_due kind m (waiting_out ds))
-          by true = ap (λ o. cons_option (row_at (passed_document d (Some detail)) o) (waiting_out (moved detail (over kind m) ds))) (ended kind detail into d.attempt) ∙ same
-          by false = ap (λ o. cons_option (row_at d o) (waiting_out (moved detail (over kind m) ds))) is ∙ ap (λ l. record { kind = k; number = d.number; due = d.due } ∷ l) same
+          by true = ap (λ o. cons_option (row_at (passed_document d (Some detail)) o) (waiting_out (moved detail (over kind m) ds)))
+              (ended kind detail into d.attempt) ∙ same
+          by false = ap (λ o. cons_option (row_at d o) (waiting_out (moved detail (over kind m) ds))) is
+              ∙ ap (λ l. record { kind = k; number = d.number; due = d.due } ∷ l) same
 
   left_of : (k : ℕ) (ds : List OutEntry) → documents_waiting k (moved detail (over kind m) ds) ≡ without_due kind m (documents_waiting k ds)
   left_of k ds = ap (filter (λ w. w.kind == k)) (left ds) ∙ commute (λ w. w.kind == k) (λ w. not (w.kind == kind && is_due m w.due)) (waiting_out ds)
 
   answers_stay : (ws : List WaitingRow) → AllByRecursion (λ w. (w.kind == to_send_receipt) ≡ true) ws → without_due kind m ws ≡ ws
-  answers_stay ws all = filter_all (λ w. not (w.kind == kind && is_due m w.due)) ws (all_weaker (λ w. (w.kind == to_send_receipt) ≡ true) (λ w. not (w.kind == kind && is_due m w.due) ≡ true) (λ w is. one w is) ws all)
+  answers_stay ws all = filter_all (λ w. not (w.kind == kind && is_due m w.due)) ws
+      (all_weaker (λ w. (w.kind == to_send_receipt) ≡ true) (λ w. not (w.kind == kind && is_due m w.due) ≡ true) (λ w is. one w is) ws all)
     where
       one : (w : WaitingRow) → (w.kind == to_send_receipt) ≡ true → not (w.kind == kind && is_due m w.due) ≡ true
-      one w is = let same : w.kind ≡ to_send_receipt = grind (arith, nat_tests, is) in ap (λ t. not (t && is_due m w.due)) (ap (λ k. k == kind) same ∙ other_kind kind detail into)
+      one w is = let same : w.kind ≡ to_send_receipt =
+          grind (arith, nat_tests, is) in ap (λ t. not (t && is_due m w.due)) (ap (λ k. k == kind) same ∙ other_kind kind detail into)
 
   -- what waits is what waited, without what was due so
   pub waits_left : (s : State) → all_waiting (passing_in kind detail m s) ≡ without_due kind m (all_waiting s)
@@ -186,8 +198,10 @@ module _ (kind m : ℕ) (detail : Detail) (into : PassesInto kind detail) where
       let answer = waiting_in s.inbox in
       let hear = documents_waiting to_hear s.outbox in
       let end = documents_waiting to_end s.outbox in
-      ap₂ ◌++◌ (left_of to_send s.outbox) (ap₂ ◌++◌ (sym (answers_stay answer (answers s.inbox))) (ap₂ ◌++◌ (left_of to_hear s.outbox) (left_of to_end s.outbox)))
-      ∙ sym (filter-append f send (answer ++ (hear ++ end)) ∙ ap (λ l. filter f send ++ l) (filter-append f answer (hear ++ end) ∙ ap (λ l. filter f answer ++ l) (filter-append f hear end)))
+      ap₂ ◌++◌ (left_of to_send s.outbox)
+      (ap₂ ◌++◌ (sym (answers_stay answer (answers s.inbox))) (ap₂ ◌++◌ (left_of to_hear s.outbox) (left_of to_end s.outbox)))
+      ∙ sym (filter-append f send (answer ++ (hear ++ end))
+      ∙ ap (λ l. filter f send ++ l) (filter-append f answer (hear ++ end) ∙ ap (λ l. filter f answer ++ l) (filter-append f hear end)))
 
 -- ---- as time passes
 
@@ -200,7 +214,8 @@ module _ (m : ℕ) where
 
   -- each document passes once, and is counted once
   abbrev IsTicked : OutEntry → Type 0
-  IsTicked d = (finished (heard d) ≡ passed_document d (passes_at m d)) × (cond (over to_hear m d) 1 0 + cond (over to_end m (heard d)) 1 0 ≡ cond (is_some (passes_at m d)) 1 0)
+  IsTicked d = (finished (heard d) ≡ passed_document d (passes_at m d))
+      × (cond (over to_hear m d) 1 0 + cond (over to_end m (heard d)) 1 0 ≡ cond (is_some (passes_at m d)) 1 0)
 
   stayed : (d : OutEntry) (t : Bool) → (d ≡ passed_document d (cond t None None)) × (0 + 0 ≡ cond (is_some (cond {A = Option Detail} t None None)) 1 0)
   stayed d true = (refl, refl)
@@ -215,15 +230,21 @@ module _ (m : ℕ) where
   ticked d Sending Last u = by (is_due m u)
     where
       by : (t : Bool)
-          → (cond t (passed_document (record d { attempt = Last; due = u; detail = Sending }) (Some TriesUsed)) (record d { attempt = Last; due = u; detail = Sending }) ≡ passed_document (record d { attempt = Last; due = u; detail = Sending }) (cond t (Some TriesUsed) None))
+          → (cond t (passed_document (record d { attempt = Last; due = u; detail = Sending }) (Some TriesUsed))
+          (record d { attempt = Last; due = u; detail = Sending }) ≡ passed_document (record d { attempt = Last; due = u; detail = Sending })
+          (cond t (Some TriesUsed) None))
           × (0 + cond t 1 0 ≡ cond (is_some (cond t (Some TriesUsed) None)) 1 0)
       by true = (refl, refl)
       by false = (refl, refl)
   ticked d Awaiting a u = by (is_due m u)
     where
       by : (t : Bool)
-          → (finished (cond t (passed_document (record d { attempt = a; due = u; detail = Awaiting }) (Some Overdue)) (record d { attempt = a; due = u; detail = Awaiting })) ≡ passed_document (record d { attempt = a; due = u; detail = Awaiting }) (cond t (Some Overdue) None))
-          × (cond t 1 0 + cond (over to_end m (cond t (passed_document (record d { attempt = a; due = u; detail = Awaiting }) (Some Overdue)) (record d { attempt = a; due = u; detail = Awaiting }))) 1 0 ≡ cond (is_some (cond t (Some Overdue) None)) 1 0)
+          → (finished (cond t (passed_document (record d { attempt = a; due = u; detail = Awaiting }) (Some Overdue))
+          (record d { attempt = a; due = u; detail = Awaiting })) ≡ passed_document (record d { attempt = a; due = u; detail = Awaiting })
+          (cond t (Some Overdue) None))
+          × (cond t 1 0 + cond (over to_end m
+          (cond t (passed_document (record d { attempt = a; due = u; detail = Awaiting }) (Some Overdue))
+          (record d { attempt = a; due = u; detail = Awaiting }))) 1 0 ≡ cond (is_some (cond t (Some Overdue) None)) 1 0)
       by true = (refl, refl)
       by false = (refl, refl)
   ticked d Processed a u = stayed (record d { attempt = a; due = u; detail = Processed }) (is_due m u)
@@ -262,4 +283,6 @@ module _ (m : ℕ) where
 
   pub all_counted : (s : State) → Ticked (count_by (over to_hear m) s.outbox + count_by (over to_end m) (passing_in to_hear Overdue m s).outbox) ≡ (tick m s).0
   unfolding tick
-  all_counted s = ap Ticked (ap₂ ◌+◌ (sym (length-filter (over to_hear m) s.outbox)) (sym (length-filter (over to_end m) (map heard s.outbox))) ∙ lengths s.outbox ∙ length-filter (λ d. is_some (passes_at m d)) s.outbox)
+  all_counted s = ap Ticked
+      (ap₂ ◌+◌ (sym (length-filter (over to_hear m) s.outbox)) (sym (length-filter (over to_end m) (map heard s.outbox))) ∙ lengths s.outbox
+      ∙ length-filter (λ d. is_some (passes_at m d)) s.outbox)

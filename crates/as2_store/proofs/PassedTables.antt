@@ -59,14 +59,21 @@ use Rattle.as2_store.proofs.PassedDocuments.{all_ticked, by_number as moved_by_n
 pub shows_due : {way : Way} (kind m : ℕ) (old new : Connected) (rows : List Row) → Shown all_due_text (any_params kind m) old new rows → (s : State)
     → Stands (VersionThree way) old.now s → rows ≡ map number_row (due_numbers kind m s)
 shows_due {way} kind m old new rows h s it =
-    let read = reads_as all_due_text (any_params kind m) old new (store_schema way) it.schema (Select (record { lets = []; body = over_table waiting_tree any_due_terms due_columns by_number (lit (Int (negsuc 0))) }) _) (all_due_is way) (all_due_plain way) (all_due_unlisted way) rows h in
-    shows_entries waiting_tree any_due_terms due_columns (lit (Int (negsuc 0))) old.now.trees (any_params kind m) rows waiting_row (λ w. w.kind == kind && is_due m w.due) (λ w. number_row w.number) (any_passes kind m) (λ _. refl) (all_waiting s) it.entries.waits (places_in_order old.now s it) read.answer
+    let read = reads_as all_due_text (any_params kind m) old new (store_schema way) it.schema
+    (Select (record { lets = []; body = over_table waiting_tree any_due_terms due_columns by_number (lit (Int (negsuc 0))) }) _) (all_due_is way)
+    (all_due_plain way) (all_due_unlisted way) rows h in
+    shows_entries waiting_tree any_due_terms due_columns (lit (Int (negsuc 0))) old.now.trees (any_params kind m) rows waiting_row
+    (λ w. w.kind == kind && is_due m w.due) (λ w. number_row w.number) (any_passes kind m) (λ _. refl) (all_waiting s) it.entries.waits
+    (places_in_order old.now s it) read.answer
     ∙ sym (map-map number_row (λ w. w.number) (due_waiting kind m s))
 
 pub reads_due : {way : Way} (kind m : ℕ) (old new : Connected) (rows : List Row) → Shown all_due_text (any_params kind m) old new rows → (s : State)
     → Stands (VersionThree way) old.now s → (new.now ≡ old.now) × (rows ≡ map number_row (due_numbers kind m s))
-reads_due {way} kind m old new rows h s it =
-    ((shown_same all_due_text (any_params kind m) old new rows (subst (λ k. IsPlain (understood k all_due_text)) (sym it.schema) (all_due_plain way)) h).0.now_is, shows_due kind m old new rows h s it)
+reads_due {way} kind m old new rows h s it = (
+  (shown_same all_due_text (any_params kind m) old new rows
+      (subst (λ k. IsPlain (understood k all_due_text)) (sym it.schema) (all_due_plain way)) h).0.now_is,
+  shows_due kind m old new rows h s it,
+)
 
 pub ok_then : {V E Q : Type 0} {P : V → Type 0} (r : Result V E) → IfOk r P → ((v : V) → P v → Q) → OnOk r Q
 ok_then (Ok v) is then = then v is
@@ -104,16 +111,20 @@ pub passes_one : {way : Way} (n count : ℕ) (detail : Detail) (old new : Connec
     → Executes out_pass_text (pass_params n detail) old new (Ok count)
     → ChangesTable old new (store_schema way) outbox_tree (map out_row (passing_one detail n ds))
 passes_one {way} n count detail old new ds it h =
-    let done = updates out_pass_text (pass_params n detail) old new (store_schema way) it.schema 3 outbox_table refl number_terms pass_project (λ (d : OutEntry). pos d.number) out_row (λ _. refl) (λ (d : OutEntry). out_row (passed_document d (Some detail))) (λ _. refl)
-    (λ d. simp (cast_int, cast_null)) ds it.rows (ordered_rise out_row (λ (d : OutEntry). d.number) (λ _. refl) ds it.in_order) (quiet way outbox_tree) (out_pass_is way) (out_pass_plain way) count h in
-    subst (ChangesTable old new (store_schema way) outbox_tree) (changed_rows (λ (d : OutEntry). passed_document d (Some detail)) n (Int (pos (detail_code detail)) ∷ []) ds) done.0
+    let done = updates out_pass_text (pass_params n detail) old new (store_schema way) it.schema 3 outbox_table refl number_terms pass_project
+    (λ (d : OutEntry). pos d.number) out_row (λ _. refl) (λ (d : OutEntry). out_row (passed_document d (Some detail))) (λ _. refl)
+    (λ d. simp (cast_int, cast_null)) ds it.rows (ordered_rise out_row (λ (d : OutEntry). d.number) (λ _. refl) ds it.in_order)
+    (quiet way outbox_tree) (out_pass_is way) (out_pass_plain way) count h in
+    subst (ChangesTable old new (store_schema way) outbox_tree)
+    (changed_rows (λ (d : OutEntry). passed_document d (Some detail)) n (Int (pos (detail_code detail)) ∷ []) ds) done.0
 
 -- the number that the row at place i shows
 pub number_here : (rows : List Row) (ns : List ℕ) (i : ℕ) (d : Row) (number : ℕ) → rows ≡ map number_row ns → i < length rows
     → column (get_or rows i d) 0 ≡ Int (pos number) → number ≡ get_or ns i 0
 number_here rows ns i d number all within is =
     let some : i < length ns = omega (arith, within, ap length all, length-map ns number_row) in
-    let shown : Int (pos (get_or ns i 0)) ≡ Int (pos number) = sym (ap (λ r. column r 0) (ap (λ l. get_or l i d) all ∙ get_or-map number_row ns i 0 d some)) ∙ is in
+    let shown : Int (pos (get_or ns i 0)) ≡ Int (pos number) =
+    sym (ap (λ r. column r 0) (ap (λ l. get_or l i d) all ∙ get_or-map number_row ns i 0 d some)) ∙ is in
     cc
 
 -- ---- one after another
@@ -148,19 +159,28 @@ pub takes_due : {way : Way} (kind m count : ℕ) (old new : Connected) (ws : Lis
     → Executes waiting_take_due_text (any_params kind m) old new (Ok count)
     → ChangesTable old new (store_schema way) waiting_tree (map waiting_row (without_due kind m ws))
 takes_due {way} kind m count old new ws it h =
-    let done = deletes waiting_take_due_text (any_params kind m) old new (store_schema way) it.schema 6 waiting_table refl any_due_terms (λ (w : WaitingRow). pos (place w)) waiting_row (λ _. refl) ws it.rows it.in_order (quiet way waiting_tree) (waiting_take_due_is way) (waiting_take_due_plain way) count h in
+    let done = deletes waiting_take_due_text (any_params kind m) old new (store_schema way) it.schema 6 waiting_table refl any_due_terms
+    (λ (w : WaitingRow). pos (place w)) waiting_row (λ _. refl) ws it.rows it.in_order (quiet way waiting_tree) (waiting_take_due_is way)
+    (waiting_take_due_plain way) count h in
     subst (λ l. ChangesTable old new (store_schema way) waiting_tree (map waiting_row l))
-    (filter_agree (λ (w : WaitingRow). not (passes any_due_terms (any_params kind m) (waiting_row w))) (λ (w : WaitingRow). not (w.kind == kind && is_due m w.due)) (λ w. ap not (any_passes kind m w)) ws) done.0
+    (filter_agree (λ (w : WaitingRow). not (passes any_due_terms (any_params kind m) (waiting_row w)))
+    (λ (w : WaitingRow). not (w.kind == kind && is_due m w.due)) (λ w. ap not (any_passes kind m w)) ws) done.0
 
 -- ---- the state
 
 pub documents_of : {way : Way} (d : Database) (s : State) → Stands (VersionThree way) d s → HoldsDocuments way d s.outbox
 unfolding IsWhole
-documents_of d s it = record { sound = it.sound; schema = it.schema; rows = it.entries.outbox; in_order = numbers_rise (λ (x : OutEntry). x.number) s.next_out s.outbox it.documents.1 }
+documents_of d s it = record {
+  sound = it.sound;
+  schema = it.schema;
+  rows = it.entries.outbox;
+  in_order = numbers_rise (λ (x : OutEntry). x.number) s.next_out s.outbox it.documents.1;
+}
 
 pub waits_of : {way : Way} (a b : Connected) (s : State) (ds : List OutEntry) → Stands (VersionThree way) a.now s → RewritesDocuments way a b ds
     → HoldsWaiting way b.now (all_waiting s)
-waits_of a b s ds it one = record { schema = one.holds.schema; rows = one.others.1.1.1.1.1.1.0 (λ e. omega arith) ∙ it.entries.waits; in_order = places_in_order a.now s it }
+waits_of a b s ds it one =
+    record { schema = one.holds.schema; rows = one.others.1.1.1.1.1.1.0 (λ e. omega arith) ∙ it.entries.waits; in_order = places_in_order a.now s it }
 
 -- the documents of one kind have passed
 pub stands_passed : (way : Way) (kind m : ℕ) (detail : Detail) → PassesInto kind detail → (a b c : Connected) (s : State) → Stands (VersionThree way) a.now s
@@ -173,7 +193,8 @@ stands_passed way kind m detail into a b c s it one two =
     let k1 = keeping way AtOutbox a.now.trees b.now.trees one.others in
     let k2 = keeping way AtWaiting b.now.trees c.now.trees two.others in
     let up = numbers_rise (λ (x : OutEntry). x.number) s.next_out s.outbox it.documents.1 in
-    let told : passed_documents detail (due_numbers kind m s) s.outbox ≡ moved detail (over kind m) s.outbox = ap (λ ns. passed_documents detail ns s.outbox) (due_are_over kind detail into m s) ∙ moved_by_number detail (over kind m) s.outbox up in
+    let told : passed_documents detail (due_numbers kind m s) s.outbox ≡ moved detail (over kind m) s.outbox =
+    ap (λ ns. passed_documents detail ns s.outbox) (due_are_over kind detail into m s) ∙ moved_by_number detail (over kind m) s.outbox up in
     record {
       sound = two.sound;
       schema = two.schema_is;
@@ -189,7 +210,8 @@ stands_passed way kind m detail into a b c s it one two =
       };
       version = still_origin (k2 AtOrigin (λ e. omega arith) ∙ k1 AtOrigin (λ e. omega arith)) it.version;
       begun = still_resent (k2 AtResent (λ e. omega arith) ∙ k1 AtResent (λ e. omega arith))
-          (resent_map (λ d. cond (over kind m d) (passed_document d (Some detail)) d) (λ d. same_number d (over kind m d)) (λ d. same_begun d (over kind m d)) (λ d. same_tries d (over kind m d)) _ s.outbox it.begun);
+          (resent_map (λ d. cond (over kind m d) (passed_document d (Some detail)) d) (λ d. same_number d (over kind m d))
+          (λ d. same_begun d (over kind m d)) (λ d. same_tries d (over kind m d)) _ s.outbox it.begun);
       left = still_emptied way AtWaiting b.now c.now two.others (still_emptied way AtOutbox a.now b.now one.others it.left);
       receipts = it.receipts;
       documents = (it.documents.0, subst (AreNumbers s.next_out) (sym (same_numbers detail (over kind m) s.outbox)) it.documents.1);
@@ -208,7 +230,8 @@ stands_passed way kind m detail into a b c s it one two =
     same_tries d false = refl
 
 pub due_count : (kind m : ℕ) (detail : Detail) → PassesInto kind detail → (s : State) → length (due_numbers kind m s) ≡ count_by (over kind m) s.outbox
-due_count kind m detail into s = ap length (due_are_over kind detail into m s) ∙ length-map (filter (over kind m) s.outbox) (λ (d : OutEntry). d.number) ∙ length-filter (over kind m) s.outbox
+due_count kind m detail into s = ap length (due_are_over kind detail into m s)
+    ∙ length-map (filter (over kind m) s.outbox) (λ (d : OutEntry). d.number) ∙ length-filter (over kind m) s.outbox
 
 -- where nothing is due so, nothing passes
 pub none_over : {layout : Layout} (kind m : ℕ) (detail : Detail) → PassesInto kind detail → (a : Connected) (s : State) → Stands layout a.now s
@@ -216,7 +239,8 @@ pub none_over : {layout : Layout} (kind m : ℕ) (detail : Detail) → PassesInt
 none_over kind m detail into a s it none =
     let up = numbers_rise (λ (x : OutEntry). x.number) s.next_out s.outbox it.documents.1 in
     let numbers = sym (due_are_over kind detail into m s) ∙ none in (
-      ap (λ ds. record s { outbox = ds }) (sym (moved_by_number detail (over kind m) s.outbox up) ∙ ap (λ ns. passed_documents detail ns s.outbox) numbers ∙ none_passed detail s.outbox),
+      ap (λ ds. record s { outbox = ds })
+          (sym (moved_by_number detail (over kind m) s.outbox up) ∙ ap (λ ns. passed_documents detail ns s.outbox) numbers ∙ none_passed detail s.outbox),
       sym (due_count kind m detail into s) ∙ ap length none,
     )
 
@@ -236,7 +260,8 @@ no_row (r ∷ rows) is = absurd (omega (arith, is))
 
 module _ {S : Type 0} (g : Ghosts S) (old : Held S) (one last : Connected) (m first second : ℕ) where
   abbrev Passes : ℕ → Detail → ℕ → Connected → Connected → Type 0
-  Passes kind detail count a b = (way : Way) (s : State) → Stands (VersionThree way) a.now s → Stands (VersionThree way) b.now (passing_in kind detail m s) × (count ≡ count_by (over kind m) s.outbox)
+  Passes kind detail count a b = (way : Way) (s : State) → Stands (VersionThree way) a.now s
+      → Stands (VersionThree way) b.now (passing_in kind detail m s) × (count ≡ count_by (over kind m) s.outbox)
 
   pub time_passes : (HasCleanDisk last → HasCleanDisk one) → (HasCleanDisk one → IsTrue (state g old).is_open)
       → (HasCleanDisk one → Passes to_hear Overdue first (state g old) one) → (HasCleanDisk last → Passes to_end TriesUsed second one last)

@@ -13,14 +13,17 @@ use Rattle.sql_tables.specs.Changes.{over_table, passes, shown_of}
 use Rattle.sql_tables.proofs.Queries.{by_number, shows_entries}
 use Rattle.as2_store.specs.Tables.{Way, store_schema}
 
-module _ (way : Way) (sql : List ℕ) (plain : IsPlain (understood (store_schema way) sql)) (unlisted : reads_listing (store_schema way) sql ≡ false) (tree : ℕ) (terms columns : List Term) (names : List (List ℕ))
-    (is : command_of (understood (store_schema way) sql) ≡ Select (record { lets = []; body = over_table tree terms columns by_number (lit (Int (negsuc 0))) }) names) (params : Row)
+module _ (way : Way) (sql : List ℕ) (plain : IsPlain (understood (store_schema way) sql)) (unlisted : reads_listing (store_schema way) sql ≡ false)
+    (tree : ℕ) (terms columns : List Term) (names : List (List ℕ))
+    (is : command_of (understood (store_schema way) sql) ≡ Select
+    (record { lets = []; body = over_table tree terms columns by_number (lit (Int (negsuc 0))) }) names) (params : Row)
     {X : Type 0} (row shown : X → Row) (shows : (x : X) → shown_of columns params (row x) ≡ shown x) (p : X → Bool) (same : (x : X)
     → passes terms params (row x) ≡ p x) where
   pub reads_rows : (old new : Connected) (rows : List Row) → Shown sql params old new rows → old.now.schema ≡ (store_schema way) → (xs : List X)
       → old.now.trees tree ≡ map row xs → IsTable (map row xs) → rows ≡ map shown (filter p xs)
   reads_rows old new rows h has xs are up =
-      let read = reads_as sql params old new (store_schema way) has (Select (record { lets = []; body = over_table tree terms columns by_number (lit (Int (negsuc 0))) }) names) is plain unlisted rows h in
+      let read = reads_as sql params old new (store_schema way) has
+      (Select (record { lets = []; body = over_table tree terms columns by_number (lit (Int (negsuc 0))) }) names) is plain unlisted rows h in
       shows_entries tree terms columns (lit (Int (negsuc 0))) old.now.trees params rows row p shown same shows xs are up read.answer
 
 pub and_true : (b : Bool) → (b && true) ≡ b

@@ -75,7 +75,8 @@ as_read fits old new (Ok a) w answer = record {
   same = λ clean s r. let to = w.done clean s r in subst (Rests new) (let same : s ≡ to.state = (let i = to.is in cc) in sym same) to.rests;
   crash = w.crash;
 }
-as_read fits old new (Err e) w answer = record { clean = w.clean; was_open = w.was_open; is_open = w.is_open; answer = answer; same = w.failed; crash = w.crash }
+as_read fits old new (Err e) w answer =
+    record { clean = w.clean; was_open = w.was_open; is_open = w.is_open; answer = answer; same = w.failed; crash = w.crash }
 
 -- what fits less than was shown
 pub reads_less : {A E : Type 0} (fits more : State → A → Type 0) (old new : Connected) (r : Result A E)
@@ -100,7 +101,8 @@ reads_standing fits more old new (Ok a) then it = record {
   same = it.same;
   crash = it.crash;
 }
-reads_standing fits more old new (Err e) then it = record { clean = it.clean; was_open = it.was_open; is_open = it.is_open; answer = it.answer; same = it.same; crash = it.crash }
+reads_standing fits more old new (Err e) then it =
+    record { clean = it.clean; was_open = it.was_open; is_open = it.is_open; answer = it.answer; same = it.same; crash = it.crash }
 
 -- ---- reads one after the other
 
@@ -119,7 +121,8 @@ read_ok fits more old new a b then it = record {
 -- a read that fails, or whose answer is no answer
 pub read_err : {A B E F : Type 0} (fits : State → A → Type 0) (more : State → B → Type 0) (old new : Connected) (r : Result A E) (f : F)
     → ReadsTables fits old new r → ReadsTables {A = B} {E = F} more old new (Err f)
-read_err fits more old new r f it = record { clean = it.clean; was_open = λ clean. tt; is_open = λ clean. tt; answer = λ clean. tt; same = it.same; crash = it.crash }
+read_err fits more old new r f it =
+    record { clean = it.clean; was_open = λ clean. tt; is_open = λ clean. tt; answer = λ clean. tt; same = it.same; crash = it.crash }
 
 -- an answer whose failure was told otherwise
 pub told_ok : {A E F : Type 0} (r : Result A E) (told : Result A F) (Q : E → F → Type 0) (a : A) → MatchResult r (λ x. told ≡ Ok x) (λ e. IsErrAnd told (Q e))
@@ -131,13 +134,15 @@ told_ok (Err e) told Q a cases is = absurd (subst (λ t. IsErrAnd t (Q e)) is ca
 pub mapped : {A E F : Type 0} (fits : State → A → Type 0) (old new : Connected) (r : Result A E) (told : Result A F) (Q : E → F → Type 0) (a : A)
     → MatchResult r (λ x. told ≡ Ok x) (λ e. IsErrAnd told (Q e)) → told ≡ Ok a
     → ReadsTables fits old new r → ReadsTables {A = A} {E = F} fits old new (Ok a)
-mapped fits old new r told Q a cases is it = read_ok fits fits old new a a (λ s r found. found) (subst (λ r. ReadsTables fits old new r) (told_ok r told Q a cases is) it)
+mapped fits old new r told Q a cases is it =
+    read_ok fits fits old new a a (λ s r found. found) (subst (λ r. ReadsTables fits old new r) (told_ok r told Q a cases is) it)
 
 -- an answer whose error is told in other words
 pub reads_told : {A E F : Type 0} (fits more : State → A → Type 0) (old new : Connected) (r : Result A E) (told : Result A F) (Q : E → F → Type 0)
     → MatchResult r (λ x. told ≡ Ok x) (λ e. IsErrAnd told (Q e)) → ((s : State) (a : A) → Rests old s → fits s a → more s a) → ReadsTables fits old new r
     → ReadsTables more old new told
-reads_told {A = A} {F = F} fits more old new (Ok a) told Q cases less it = subst (λ (t : Result A F). ReadsTables more old new t) (sym cases) (read_ok fits more old new a a (λ s r found. less s a r found) it)
+reads_told {A = A} {F = F} fits more old new (Ok a) told Q cases less it =
+    subst (λ (t : Result A F). ReadsTables more old new t) (sym cases) (read_ok fits more old new a a (λ s r found. less s a r found) it)
 reads_told fits more old new (Err e) (Ok b) Q cases less it = absurd cases
 reads_told fits more old new (Err e) (Err f) Q cases less it = read_err fits more old new (Err e) f it
 
@@ -158,7 +163,14 @@ read_told fits more old new a (Err e) (Ok b) Q P cases is then it = absurd cases
 read_told fits more old new a (Err e) (Err f) Q P cases is then it = read_err fits more old new (Ok a) f it
 
 pub survives_same : (c : Connected) (P : Trees → Type 0) → Survives c c P
-survives_same c P = record { clean = omega arith; shield = λ is. is; counts = omega arith; limit = refl; closes = λ clean is. inl is; crash = λ clean db may. inl may }
+survives_same c P = record {
+  clean = omega arith;
+  shield = λ is. is;
+  counts = omega arith;
+  limit = refl;
+  closes = λ clean is. inl is;
+  crash = λ clean db may. inl may;
+}
 
 -- no statement ran
 pub nothing_inside : (c : Connected) → IsInside c c

@@ -53,7 +53,8 @@ resent_more rows next ds x numbers is tried it = record {
     same =
         ap (filter (lower it.was x.number)) (map_last (λ (d : OutEntry). d.number) ds x)
         ∙ filter-append (lower it.was x.number) (numbers_of ds) (x.number ∷ [])
-        ∙ ap₂ ◌++◌ (filter_same (lower it.was x.number) it.was (numbers_of ds) old) (ap (λ t. cond t (x.number ∷ []) []) (none_of_it (it.was x.number) x.number))
+        ∙ ap₂ ◌++◌ (filter_same (lower it.was x.number) it.was (numbers_of ds) old)
+        (ap (λ t. cond t (x.number ∷ []) []) (none_of_it (it.was x.number) x.number))
         ∙ append-nil (filter it.was (numbers_of ds))
 
     either : (a b : Bool) → b ≡ false → a ≡ (a || b)
@@ -87,7 +88,8 @@ pub resent_changed : (f : OutEntry → OutEntry) → ((d : OutEntry) → (f d).n
     → ((d : OutEntry) → (f d).tries ≡ d.tries)
     → (n : ℕ) (rows : List Row) (ds : List OutEntry) → HasResent rows ds → HasResent rows (changed out_number n f ds)
 resent_changed f number begun tries n rows ds it =
-    resent_map (λ d. cond (d.number == n) (f d) d) (λ d. same_number d (d.number == n)) (λ d. same_begun d (d.number == n)) (λ d. same_tries d (d.number == n)) rows ds it
+    resent_map (λ d. cond (d.number == n) (f d) d) (λ d. same_number d (d.number == n)) (λ d. same_begun d (d.number == n))
+    (λ d. same_tries d (d.number == n)) rows ds it
   where
     same_number : (d : OutEntry) (t : Bool) → (cond t (f d) d).number ≡ d.number
     same_number d true = number d
@@ -145,7 +147,8 @@ module _ (was : ℕ → Bool) (n : ℕ) where
       go false rest = rest
 
   no_more : (ks : List ℕ) → AllByRecursion (λ k. (k == n) ≡ false) ks → filter or_this ks ≡ filter was ks
-  no_more ks other = filter_same or_this was ks (all_weaken (λ k. (k == n) ≡ false) (λ k. or_this k ≡ was k) (λ k is. ap (λ t. was k || t) is ∙ or_false (was k)) ks other)
+  no_more ks other = filter_same or_this was ks
+      (all_weaken (λ k. (k == n) ≡ false) (λ k. or_this k ≡ was k) (λ k is. ap (λ t. was k || t) is ∙ or_false (was k)) ks other)
     where
       or_false : (b : Bool) → (b || false) ≡ b
       or_false true = refl
@@ -162,7 +165,8 @@ module _ (was : ℕ → Bool) (n : ℕ) where
       go false rest = rest
 
   put_first : (k : ℕ) (ks : List ℕ) → k ≡ n → AllByRecursion (λ k. (k == n) ≡ false) ks → filter or_this (k ∷ ks) ≡ k ∷ filter was ks
-  put_first k ks here other = ap (λ t. cond t (k ∷ filter or_this ks) (filter or_this ks)) (or_true (was k) (k == n) (itself k n here)) ∙ ap (λ l. k ∷ l) (no_more ks other)
+  put_first k ks here other = ap (λ t. cond t (k ∷ filter or_this ks) (filter or_this ks)) (or_true (was k) (k == n) (itself k n here))
+      ∙ ap (λ l. k ∷ l) (no_more ks other)
     where
       itself : (k n : ℕ) → k ≡ n → (k == n) ≡ true
       itself k n same = grind (arith, nat_tests, same)
@@ -202,7 +206,8 @@ module _ (was : ℕ → Bool) (n : ℕ) where
       ∙ filter-append or_this it.front (it.one ∷ it.back)
       ∙ ap₂ ◌++◌ (no_more it.front front) (put_first it.one it.back it.here back ∙ ap (λ k. k ∷ filter was it.back) it.here) in
       ap (λ l. put_row (resent_row n) (map resent_row l)) out
-      ∙ puts_between resent_row (λ (k : ℕ). k) (λ _. refl) n (filter was it.front) (filter was it.back) (low_filtered it.front it.low) (high_filtered it.back it.high)
+      ∙ puts_between resent_row (λ (k : ℕ). k) (λ _. refl) n (filter was it.front) (filter was it.back) (low_filtered it.front it.low)
+      (high_filtered it.back it.high)
       ∙ ap (map resent_row) (sym into)
 
 -- the document of this number was tried, and now has a row
@@ -234,7 +239,8 @@ now_marked rows n ds tried it new is = record {
         → AllByRecursion (λ d. d.begun ≡ (nat_le 1 d.tries || it.was d.number)) ds
         → AllByRecursion (λ d. (d.number == n) ≡ true → d.begun ≡ or_this it.was n d.number) ds
     owns [] tried all = tt
-    owns (d ∷ ds) tried all = (λ here. all.0 ∙ ap (λ b. b || it.was d.number) (tried.0 here) ∙ or_true (it.was d.number) (d.number == n) here, owns ds tried.1 all.1)
+    owns (d ∷ ds) tried all =
+        (λ here. all.0 ∙ ap (λ b. b || it.was d.number) (tried.0 here) ∙ or_true (it.was d.number) (d.number == n) here, owns ds tried.1 all.1)
 
 -- it was not tried, so its row alone tells
 pub marked_before : (rows : List Row) (n : ℕ) (ds : List OutEntry) → AllByRecursion (λ d. (d.number == n) ≡ true → nat_le 1 d.tries ≡ false) ds

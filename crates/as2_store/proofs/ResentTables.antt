@@ -48,7 +48,9 @@ pub takes_resent : {way : Way} (n count : ℕ) (old new : Connected) (ns : List 
     → Executes resent_take_text (one_param n) old new (Ok count)
     → ChangesTable old new (store_schema way) (resent_tree way) (map resent_row (filter (λ k. not (k == n)) ns))
 takes_resent {way} n count old new ns it h =
-    let done = deletes resent_take_text (one_param n) old new (store_schema way) it.schema (resent_place way) (resent_table way) (resent_there way) number_terms (λ (k : ℕ). pos k) resent_row (λ _. refl) ns it.rows it.in_order (quiet way (resent_tree way)) (resent_take_is way) (resent_take_plain way) count h in
+    let done = deletes resent_take_text (one_param n) old new (store_schema way) it.schema (resent_place way) (resent_table way)
+    (resent_there way) number_terms (λ (k : ℕ). pos k) resent_row (λ _. refl) ns it.rows it.in_order (quiet way (resent_tree way))
+    (resent_take_is way) (resent_take_plain way) count h in
     subst (λ l. ChangesTable old new (store_schema way) (resent_tree way) (map resent_row l))
     (filter_agree (λ (k : ℕ). not (passes number_terms (one_param n) (resent_row k))) (λ (k : ℕ). not (k == n)) (λ k. ap not (has_number n k)) ns) done.0
 
@@ -59,16 +61,20 @@ pub puts_resent : (way : Way) (old new : Connected) (n count : ℕ) → old.now.
     → Executes resent_put_text (one_param n) old new (Ok count)
     → ChangesTable old new (store_schema way) (resent_tree way) (put_row (resent_row n) (old.now.trees (resent_tree way)))
 puts_resent way old new n count has h =
-    inserts_given resent_put_text (one_param n) old new (store_schema way) has (resent_place way) (resent_table way) (resent_there way) refl resent_put_terms 2 (resent_row n) (one_resent way n) refl (resent_put_is way) (resent_put_plain way) count h
+    inserts_given resent_put_text (one_param n) old new (store_schema way) has (resent_place way) (resent_table way)
+    (resent_there way) refl resent_put_terms 2 (resent_row n) (one_resent way n) refl (resent_put_is way) (resent_put_plain way) count h
 
 -- ---- which documents were tried
 
 pub reads_tried : {way : Way} (n : ℕ) (old new : Connected) (rows : List Row) → Shown tried_text (one_param n) old new rows → (s : State)
     → Stands (VersionThree way) old.now s → (new.now ≡ old.now) × (rows ≡ map number_row (tried_numbers n s))
 reads_tried {way} n old new rows h s it =
-    let read = reads_as tried_text (one_param n) old new (store_schema way) it.schema (Select (record { lets = []; body = over_table outbox_tree tried_terms resent_column_terms by_number (lit (Int (negsuc 0))) }) _) (tried_is way) (tried_plain way) (tried_unlisted way) rows h in (
+    let read = reads_as tried_text (one_param n) old new (store_schema way) it.schema
+    (Select (record { lets = []; body = over_table outbox_tree tried_terms resent_column_terms by_number (lit (Int (negsuc 0))) }) _)
+    (tried_is way) (tried_plain way) (tried_unlisted way) rows h in (
       (shown_same tried_text (one_param n) old new rows (subst (λ k. IsPlain (understood k tried_text)) (sym it.schema) (tried_plain way)) h).0.now_is,
-      shows_entries outbox_tree tried_terms resent_column_terms (lit (Int (negsuc 0))) old.now.trees (one_param n) rows out_row (is_tried n) (λ d. number_row d.number)
+      shows_entries outbox_tree tried_terms resent_column_terms (lit (Int (negsuc 0))) old.now.trees (one_param n) rows out_row (is_tried n)
+          (λ d. number_row d.number)
           (λ d. ap₂ ◌&&◌ (numbers_equal d.number n) (ap (λ b. b && true) (numbers_at_least d.tries 1) ∙ and_true _)) (λ _. refl) s.outbox it.entries.outbox
           (entries_rise out_row (λ (d : OutEntry). d.number) (λ _. refl) s.next_out s.outbox it.documents.1) read.answer
           ∙ sym (map-map number_row (λ (d : OutEntry). d.number) (filter (is_tried n) s.outbox)),
@@ -99,7 +105,8 @@ module _ (n : ℕ) (ds : List OutEntry) (it : Split out_number n ds) where
   high_other = all_weaken (λ (d : OutEntry). n < d.number) (λ d. (d.number == n) ≡ false) (λ d less. greater_number d.number n less) it.back it.high
 
   none_of : (es : List OutEntry) → AllByRecursion (λ (d : OutEntry). (d.number == n) ≡ false) es → filter (is_tried n) es ≡ []
-  none_of es other = filter_none (is_tried n) es (all_weaken (λ (d : OutEntry). (d.number == n) ≡ false) (λ d. is_tried n d ≡ false) (λ d is. ap (λ t. t && nat_le 1 d.tries) is) es other)
+  none_of es other = filter_none (is_tried n) es
+      (all_weaken (λ (d : OutEntry). (d.number == n) ≡ false) (λ d. is_tried n d ≡ false) (λ d is. ap (λ t. t && nat_le 1 d.tries) is) es other)
 
   -- it is the one that was tried
   one_tried : filter (is_tried n) ds ≢ [] → nat_le 1 it.one.tries ≡ true
@@ -119,7 +126,8 @@ module _ (n : ℕ) (ds : List OutEntry) (it : Split out_number n ds) where
 
   all_tried : filter (is_tried n) ds ≢ [] → AllByRecursion (λ (d : OutEntry). (d.number == n) ≡ true → nat_le 1 d.tries ≡ true) ds
   all_tried some = subst (AllByRecursion (λ (d : OutEntry). (d.number == n) ≡ true → nat_le 1 d.tries ≡ true)) (sym it.whole)
-      (all-append (λ (d : OutEntry). (d.number == n) ≡ true → nat_le 1 d.tries ≡ true) it.front (it.one ∷ it.back) (never it.front low_other) (λ _. one_tried some, never it.back high_other))
+      (all-append (λ (d : OutEntry). (d.number == n) ≡ true → nat_le 1 d.tries ≡ true) it.front (it.one ∷ it.back) (never it.front low_other)
+      (λ _. one_tried some, never it.back high_other))
     where
       never : (es : List OutEntry) → AllByRecursion (λ (d : OutEntry). (d.number == n) ≡ false) es
           → AllByRecursion (λ (d : OutEntry). (d.number == n) ≡ true → nat_le 1 d.tries ≡ true) es
@@ -163,7 +171,11 @@ pub ready_untried : (way : Way) (a b : Connected) (s : State) (n : ℕ) → Stan
     → IsReady way b.now s n 0
 ready_untried way a b s n it same none =
     let stood : Stands (VersionThree way) b.now s = subst (λ d. Stands (VersionThree way) d s) (sym same) it in
-    record { stands = stood; marked = λ _. marked_before (b.now.trees (resent_tree way)) n s.outbox (untried_all n s.outbox (unmapped (filter (is_tried n) s.outbox) none)) stood.begun }
+    record {
+      stands = stood;
+      marked = λ _. marked_before (b.now.trees (resent_tree way)) n s.outbox
+          (untried_all n s.outbox (unmapped (filter (is_tried n) s.outbox) none)) stood.begun;
+    }
   where
     unmapped : (ds : List OutEntry) → numbers_of ds ≡ [] → ds ≡ []
     unmapped [] is = refl
@@ -287,10 +299,12 @@ finds_resent n old new rows h s r p d found same =
     let it = here.stands in
     let kept = filter it.begun.was (numbers_of s.outbox) in
     let all : rows ≡ map number_row (filter (λ k. k == n) kept) =
-    reads_rows way resent_read_text (resent_read_plain way) (resent_read_unlisted way) (resent_tree way) number_terms resent_column_terms (codes "number" ∷ []) (resent_read_is way) (one_param n) resent_row number_row (λ _. refl) (λ k. k == n) (has_number n) old new rows h it.schema
+    reads_rows way resent_read_text (resent_read_plain way) (resent_read_unlisted way) (resent_tree way) number_terms resent_column_terms
+    (codes "number" ∷ []) (resent_read_is way) (one_param n) resent_row number_row (λ _. refl) (λ k. k == n) (has_number n) old new rows h it.schema
     kept it.begun.rows_are (resent_in_order it.begun.was s.next_out (numbers_of s.outbox) it.documents.1) in
     found_begun it.begun.was p s.outbox d it.begun.begun found
-    ∙ ap (λ t. nat_le 1 d.tries || t) (sym (ap has_row all ∙ ap (λ m. has_row (map number_row (filter (λ k. k == m) kept))) same ∙ row_tells it.begun.was p s.outbox d found))
+    ∙ ap (λ t. nat_le 1 d.tries || t)
+    (sym (ap has_row all ∙ ap (λ m. has_row (map number_row (filter (λ k. k == m) kept))) same ∙ row_tells it.begun.was p s.outbox d found))
 
 -- one that was tried is begun
 pub tried_is_begun : {way : Way} (c : Connected) (s : State) → Stands (VersionThree way) c.now s → (p : OutEntry → Bool) (d : OutEntry)

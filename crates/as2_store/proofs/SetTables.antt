@@ -58,9 +58,15 @@ pub sets : {way : Way} (n count : ℕ) (p : Progress) (old new : Connected) (s :
     → ChangesTable old new (store_schema way) outbox_tree (map out_row (change_document s n (come_to p)).outbox)
     × (count ≡ length (filter (λ (d : OutEntry). d.number == n) s.outbox))
 sets {way} n count p old new s it h =
-    let done = updates out_set_text (set_params n p) old new (store_schema way) it.schema 3 outbox_table refl number_terms set_project (λ (d : OutEntry). pos d.number) out_row (λ _. refl) (λ (d : OutEntry). out_row (come_to p d)) (λ _. refl)
-    (λ d. simp (cast_int, cast_null, cast_optional)) s.outbox it.entries.outbox (entries_rise out_row (λ (d : OutEntry). d.number) (λ _. refl) s.next_out s.outbox it.documents.1) (quiet way outbox_tree) (out_set_is way) (out_set_plain way) count h in
-    (subst (ChangesTable old new (store_schema way) outbox_tree) (changed_rows (come_to p) n (set_more p) s.outbox) done.0, done.1 ∙ ap length (numbered n (set_more p) s.outbox))
+    let done = updates out_set_text (set_params n p) old new (store_schema way) it.schema 3 outbox_table refl number_terms set_project
+    (λ (d : OutEntry). pos d.number) out_row (λ _. refl) (λ (d : OutEntry). out_row (come_to p d)) (λ _. refl)
+    (λ d. simp (cast_int, cast_null, cast_optional)) s.outbox it.entries.outbox
+    (entries_rise out_row (λ (d : OutEntry). d.number) (λ _. refl) s.next_out s.outbox it.documents.1) (quiet way outbox_tree) (out_set_is way)
+    (out_set_plain way) count h in (
+      subst (ChangesTable old new (store_schema way) outbox_tree) (changed_rows (come_to p) n (set_more p) s.outbox) done.0,
+      done.1
+          ∙ ap length (numbered n (set_more p) s.outbox),
+    )
 
 -- ---- which documents are begun
 
@@ -125,13 +131,17 @@ stands_set way a b c s n p it marked place one two =
         inbox = k2 AtInbox (λ e. omega arith) ∙ k1 AtInbox (λ e. omega arith) ∙ has.inbox;
         inbox_contents = unchanged (k2 AtInboxPiece (λ e. omega arith) ∙ k1 AtInboxPiece (λ e. omega arith)) has.inbox_contents;
         outbox = k2 AtOutbox (λ e. omega arith) ∙ one.rows_are;
-        outbox_contents = subst (λ ps. HasRows (c.now.trees outbox_piece_tree) (map piece_shown ps)) (sym (same_pieces (come_to p) (λ _. refl) n (λ _. refl) s.outbox))
+        outbox_contents = subst (λ ps. HasRows (c.now.trees outbox_piece_tree) (map piece_shown ps))
+            (sym (same_pieces (come_to p) (λ _. refl) n (λ _. refl) s.outbox))
             (unchanged (k2 AtOutboxPiece (λ e. omega arith) ∙ k1 AtOutboxPiece (λ e. omega arith)) has.outbox_contents);
-        evidence = k2 AtEvidence (λ e. omega arith) ∙ k1 AtEvidence (λ e. omega arith) ∙ has.evidence ∙ sym (same_evidence (come_to p) (λ _. refl) n (λ _. refl) s.outbox);
-        waits = two.rows_are ∙ ap (λ k. noted_rows (waits_at k p) (map waiting_row (without_document n (all_waiting s)))) (sym place.here) ∙ waits_changed (come_to p) (λ _. refl) n a.now s it place;
+        evidence = k2 AtEvidence (λ e. omega arith) ∙ k1 AtEvidence (λ e. omega arith) ∙ has.evidence
+            ∙ sym (same_evidence (come_to p) (λ _. refl) n (λ _. refl) s.outbox);
+        waits = two.rows_are ∙ ap (λ k. noted_rows (waits_at k p) (map waiting_row (without_document n (all_waiting s)))) (sym place.here)
+            ∙ waits_changed (come_to p) (λ _. refl) n a.now s it place;
       };
       version = still_origin (k2 AtOrigin (λ e. omega arith) ∙ k1 AtOrigin (λ e. omega arith)) it.version;
-      begun = still_resent (k2 AtResent (λ e. omega arith) ∙ k1 AtResent (λ e. omega arith)) (resent_set p n (a.now.trees (resent_tree way)) s.outbox it.begun marked);
+      begun = still_resent (k2 AtResent (λ e. omega arith) ∙ k1 AtResent (λ e. omega arith))
+          (resent_set p n (a.now.trees (resent_tree way)) s.outbox it.begun marked);
       left = still_emptied way AtWaiting b.now c.now two.others (still_emptied way AtOutbox a.now b.now one.others it.left);
       receipts = it.receipts;
       documents = (it.documents.0, subst (AreNumbers s.next_out) (sym (same_numbers (come_to p) (λ _. refl) n s.outbox)) it.documents.1);
@@ -164,9 +174,17 @@ comes_further g old mid one last n w p beyond within count some was was_mid kept
           let many : length (filter (λ (d : OutEntry). d.number == w) s.outbox) ≢ 0 = λ none. some (first.1 ∙ none) in
           let found = some_found (λ (d : OutEntry). d.number == w) s.outbox many in
           let place = split out_number w s.outbox (numbers_rise out_number s.next_out s.outbox stood.documents.1) many in
-          let waits : HoldsWaiting way one.now (all_waiting s) = record { schema = first.0.schema_is; rows = first.0.others.1.1.1.1.1.1.0 (λ e. omega arith) ∙ stood.entries.waits; in_order = places_in_order mid.now s stood } in
-          let stands : Holds last.now (change_document s w (come_to p)) = record { way = way; stands = stands_set way mid one last s w p stood ready.marked place first.0 (renewed clean way (all_waiting s) waits) } in
-          subst (λ k. (t : State) × (set_out_in k p s ≡ Some t) × Holds last.now t) (same_number (given mid s w found.0 stood found.1)) (change_document s w (come_to p), found_next s w p found.0 found.1, stands);
+          let waits : HoldsWaiting way one.now (all_waiting s) =
+          record {
+            schema = first.0.schema_is;
+            rows = first.0.others.1.1.1.1.1.1.0 (λ e. omega arith)
+                ∙ stood.entries.waits;
+            in_order = places_in_order mid.now s stood;
+          } in
+          let stands : Holds last.now (change_document s w (come_to p)) =
+          record { way = way; stands = stands_set way mid one last s w p stood ready.marked place first.0 (renewed clean way (all_waiting s) waits) } in
+          subst (λ k. (t : State) × (set_out_in k p s ≡ Some t) × Holds last.now t) (same_number (given mid s w found.0 stood found.1))
+          (change_document s w (come_to p), found_next s w p found.0 found.1, stands);
     }
   where
     found_next : (s : State) (k : ℕ) (p : Progress) (d : OutEntry) → document s k ≡ Some d → set_out_in k p s ≡ Some (change_document s k (come_to p))

@@ -30,7 +30,8 @@ are_settled (d ∷ ds) = go d.evidence refl (are_settled ds)
   where
     go : (o : Option Evidence) → d.evidence ≡ o
         → map number_of (filter (λ _. true) (receipts ds)) ≡ map number_row (map (λ (x : OutEntry). x.number) (filter is_settled ds))
-        → map number_of (filter (λ _. true) (cons_option (option_map (evidence_in d.number) o) (receipts ds))) ≡ map number_row (map (λ (x : OutEntry). x.number) (cond (is_settled (record d { evidence = o })) (d ∷ filter is_settled ds) (filter is_settled ds)))
+        → map number_of (filter (λ _. true) (cons_option (option_map (evidence_in d.number) o) (receipts ds))) ≡ map number_row
+        (map (λ (x : OutEntry). x.number) (cond (is_settled (record d { evidence = o })) (d ∷ filter is_settled ds) (filter is_settled ds)))
     go None is rest = rest
     go (Some e) is rest = ap (λ l. number_row d.number ∷ l) rest
 
@@ -40,6 +41,10 @@ finds_settled old new rows h s r =
     let here = r.stands (shown_open settled_text [] old new rows h) in
     let way = here.way in
     let it = here.stands in
-    reads_rows way settled_text (settled_plain way) (settled_unlisted way) evidence_tree [] settled_column_terms (codes "number" ∷ []) (settled_is way) [] row_of number_of (λ _. refl) (λ _. true) (λ _. refl) old new rows h it.schema (receipts s.outbox) (it.entries.evidence ∙ rows_of s.outbox)
-    (ordered_rise row_of (λ r. r.number) (λ _. refl) (receipts s.outbox) (given_rise receipt_row (λ (d : OutEntry). d.number) (λ r. r.number) kept s.outbox (numbers_rise (λ (d : OutEntry). d.number) s.next_out s.outbox it.documents.1)))
+    reads_rows way settled_text (settled_plain way) (settled_unlisted way) evidence_tree [] settled_column_terms (codes "number" ∷ [])
+    (settled_is way) [] row_of number_of (λ _. refl) (λ _. true) (λ _. refl) old new rows h it.schema (receipts s.outbox)
+    (it.entries.evidence ∙ rows_of s.outbox)
+    (ordered_rise row_of (λ r. r.number) (λ _. refl) (receipts s.outbox)
+    (given_rise receipt_row (λ (d : OutEntry). d.number) (λ r. r.number) kept s.outbox
+    (numbers_rise (λ (d : OutEntry). d.number) s.next_out s.outbox it.documents.1)))
     ∙ are_settled s.outbox

@@ -80,10 +80,17 @@ pub settles : {way : Way} (n count : ℕ) (detail : Detail) (e : Evidence) (old 
     → ChangesTable old new (store_schema way) outbox_tree (map out_row (change_document s n (settled_as detail e)).outbox)
     × (count ≡ length (filter (λ (d : OutEntry). d.number == n) s.outbox))
 settles {way} n count detail e old new s it h =
-    let done = updates out_settle_text (settle_params n detail) old new (store_schema way) it.schema 3 outbox_table refl number_terms settle_project (λ (d : OutEntry). pos d.number) out_row (λ _. refl) (λ (d : OutEntry). out_row (settled_as detail e d)) (λ _. refl)
-    (λ d. simp (cast_int, cast_null)) s.outbox it.entries.outbox (entries_rise out_row (λ (d : OutEntry). d.number) (λ _. refl) s.next_out s.outbox it.documents.1) (quiet way outbox_tree) (out_settle_is way) (out_settle_plain way) count h in
-    let more = Int (pos (detail_code detail)) ∷ [] in
-    (subst (ChangesTable old new (store_schema way) outbox_tree) (changed_rows (settled_as detail e) n more s.outbox) done.0, done.1 ∙ ap length (numbered n more s.outbox))
+    let done = updates out_settle_text (settle_params n detail) old new
+    (store_schema way) it.schema 3 outbox_table refl number_terms settle_project (λ (d : OutEntry). pos d.number) out_row (λ _. refl)
+    (λ (d : OutEntry). out_row (settled_as detail e d)) (λ _. refl)
+    (λ d. simp (cast_int, cast_null)) s.outbox it.entries.outbox
+    (entries_rise out_row (λ (d : OutEntry). d.number) (λ _. refl) s.next_out s.outbox it.documents.1) (quiet way outbox_tree)
+    (out_settle_is way) (out_settle_plain way) count h in
+    let more = Int (pos (detail_code detail)) ∷ [] in (
+      subst (ChangesTable old new (store_schema way) outbox_tree) (changed_rows (settled_as detail e) n more s.outbox) done.0,
+      done.1
+          ∙ ap length (numbered n more s.outbox),
+    )
 
 -- ---- its evidence
 
@@ -97,13 +104,15 @@ pub puts_evidence : (way : Way) (old new : Connected) (n : ℕ) (e : Evidence) (
     → Executes evidence_put_text (receipt_params n e) old new (Ok count)
     → ChangesTable old new (store_schema way) evidence_tree (put_row (evidence_row n e) (old.now.trees evidence_tree))
 puts_evidence way old new n e count has h =
-    inserts_given evidence_put_text (receipt_params n e) old new (store_schema way) has 5 evidence_table refl refl evidence_put_terms 5 (evidence_row n e) (one_receipt n e) refl (evidence_put_is way) (evidence_put_plain way) count h
+    inserts_given evidence_put_text (receipt_params n e) old new (store_schema way) has 5 evidence_table refl refl evidence_put_terms 5
+    (evidence_row n e) (one_receipt n e) refl (evidence_put_is way) (evidence_put_plain way) count h
 
 pub fresh_evidence : (way : Way) (old new : Connected) (n : ℕ) (e : Evidence) (count : ℕ) → old.now.schema ≡ (store_schema way)
     → Executes evidence_put_text (receipt_params n e) old new (Ok count)
     → are_fresh (old.now.trees evidence_tree) (evidence_row n e ∷ []) ≡ true
 fresh_evidence way old new n e count has h =
-    inserts_fresh evidence_put_text (receipt_params n e) old new (store_schema way) has 5 evidence_table refl refl evidence_put_terms 5 (evidence_row n e) (one_receipt n e) refl (evidence_put_is way) (evidence_put_plain way) count h
+    inserts_fresh evidence_put_text (receipt_params n e) old new (store_schema way) has 5 evidence_table refl refl evidence_put_terms 5
+    (evidence_row n e) (one_receipt n e) refl (evidence_put_is way) (evidence_put_plain way) count h
 
 others_stay : (n : ℕ) (detail : Detail) (e : Evidence) (ds : List OutEntry) → AllByRecursion (λ (d : OutEntry). n < d.number) ds → ended n detail e ds ≡ ds
 others_stay n detail e [] all = refl
@@ -128,10 +137,12 @@ put_first n e [] all = refl
 put_first n e (d ∷ ds) all = go d.evidence (put_first n e ds all.1)
   where
     go : (o : Option Evidence) → put_row (evidence_row n e) (evidence_rows ds) ≡ evidence_row n e ∷ evidence_rows ds
-        → put_row (evidence_row n e) (cons_option (option_map (evidence_row d.number) o) (evidence_rows ds)) ≡ evidence_row n e ∷ cons_option (option_map (evidence_row d.number) o) (evidence_rows ds)
+        → put_row (evidence_row n e) (cons_option (option_map (evidence_row d.number) o) (evidence_rows ds)) ≡ evidence_row n e ∷ cons_option
+        (option_map (evidence_row d.number) o) (evidence_rows ds)
     go None rest = rest
     go (Some r) rest =
-        ap (λ o. match_ordering o (evidence_row d.number r ∷ put_row (evidence_row n e) (evidence_rows ds)) (evidence_row n e ∷ evidence_rows ds) (evidence_row n e ∷ evidence_row d.number r ∷ evidence_rows ds)) (falls d.number n all.0)
+        ap (λ o. match_ordering o (evidence_row d.number r ∷ put_row (evidence_row n e) (evidence_rows ds)) (evidence_row n e ∷ evidence_rows ds)
+        (evidence_row n e ∷ evidence_row d.number r ∷ evidence_rows ds)) (falls d.number n all.0)
 
 -- and behind those of lower ones, as that of the document which had none
 put_among : (n : ℕ) (detail : Detail) (e : Evidence) (ds : List OutEntry) → IsAscending (λ (x y : OutEntry). x.number < y.number) ds → (d : OutEntry)
@@ -141,10 +152,12 @@ put_among n detail e [] up d found none = absurd cc
 put_among n detail e (x ∷ ds) up d found none = go (x.number == n) refl found (λ later. put_among n detail e ds up.1 d later none)
   where
     behind : (o : Option Evidence) → x.number < n → put_row (evidence_row n e) (evidence_rows ds) ≡ evidence_rows (ended n detail e ds)
-        → put_row (evidence_row n e) (cons_option (option_map (evidence_row x.number) o) (evidence_rows ds)) ≡ cons_option (option_map (evidence_row x.number) o) (evidence_rows (ended n detail e ds))
+        → put_row (evidence_row n e) (cons_option (option_map (evidence_row x.number) o) (evidence_rows ds)) ≡ cons_option
+        (option_map (evidence_row x.number) o) (evidence_rows (ended n detail e ds))
     behind None less rest = rest
     behind (Some r) less rest =
-        ap (λ o. match_ordering o (evidence_row x.number r ∷ put_row (evidence_row n e) (evidence_rows ds)) (evidence_row n e ∷ evidence_rows ds) (evidence_row n e ∷ evidence_row x.number r ∷ evidence_rows ds)) (rises x.number n less)
+        ap (λ o. match_ordering o (evidence_row x.number r ∷ put_row (evidence_row n e) (evidence_rows ds)) (evidence_row n e ∷ evidence_rows ds)
+        (evidence_row n e ∷ evidence_row x.number r ∷ evidence_rows ds)) (rises x.number n less)
         ∙ ap (λ l. evidence_row x.number r ∷ l) rest
 
     go : (t : Bool) → (x.number == n) ≡ t → cond t (Some x) (find (λ (y : OutEntry). y.number == n) ds) ≡ Some d
@@ -154,7 +167,8 @@ put_among n detail e (x ∷ ds) up d found none = go (x.number == n) refl found 
         let here : x.number ≡ n = grind (arith, nat_tests) in
         let same : x ≡ d = cc in
         let after = subst (λ k. AllByRecursion (λ (y : OutEntry). k < y.number) ds) here up.0 in
-        ap (λ o. put_row (evidence_row n e) (cons_option (option_map (evidence_row x.number) o) (evidence_rows ds))) (ap (λ (y : OutEntry). y.evidence) same ∙ none)
+        ap (λ o. put_row (evidence_row n e) (cons_option (option_map (evidence_row x.number) o) (evidence_rows ds)))
+        (ap (λ (y : OutEntry). y.evidence) same ∙ none)
         ∙ put_first n e ds after
         ∙ ap₂ (λ k l. evidence_row k e ∷ evidence_rows l) (sym here) (sym (others_stay n detail e ds after))
     go false is it later =
@@ -188,7 +202,8 @@ pub waits_left : {layout : Layout} (t : Database) (s : State) (n : ℕ) (detail 
     → Split out_number n s.outbox
     → map waiting_row (without_document n (all_waiting s)) ≡ map waiting_row (all_waiting (change_document s n (settled_as detail e)))
 waits_left t s n detail e by stood it =
-    ap (λ o. noted_rows (option_map (λ kind. record { kind = kind; number = it.one.number; due = None }) o) (map waiting_row (without_document n (all_waiting s)))) (sym (rests_idle detail by))
+    ap (λ o. noted_rows (option_map (λ kind. record { kind = kind; number = it.one.number; due = None }) o)
+    (map waiting_row (without_document n (all_waiting s)))) (sym (rests_idle detail by))
     ∙ waits_changed (settled_as detail e) (λ _. refl) n t s stood it
 
 -- ---- the state
@@ -232,17 +247,21 @@ stands_settled way a b c d s n detail e x by it found fresh_unsettled place one 
       meta = k3 AtMeta (λ e. omega arith) ∙ k2 AtMeta (λ e. omega arith) ∙ k1 AtMeta (λ e. omega arith) ∙ it.meta;
       entries = record {
         inbox = k3 AtInbox (λ e. omega arith) ∙ k2 AtInbox (λ e. omega arith) ∙ k1 AtInbox (λ e. omega arith) ∙ has.inbox;
-        inbox_contents = unchanged (k3 AtInboxPiece (λ e. omega arith) ∙ k2 AtInboxPiece (λ e. omega arith) ∙ k1 AtInboxPiece (λ e. omega arith)) has.inbox_contents;
+        inbox_contents = unchanged
+            (k3 AtInboxPiece (λ e. omega arith) ∙ k2 AtInboxPiece (λ e. omega arith) ∙ k1 AtInboxPiece (λ e. omega arith)) has.inbox_contents;
         outbox = k3 AtOutbox (λ e. omega arith) ∙ k2 AtOutbox (λ e. omega arith) ∙ one.rows_are;
-        outbox_contents = subst (λ ps. HasRows (d.now.trees outbox_piece_tree) (map piece_shown ps)) (sym (same_pieces (settled_as detail e) (λ _. refl) n (λ _. refl) s.outbox))
+        outbox_contents = subst (λ ps. HasRows (d.now.trees outbox_piece_tree) (map piece_shown ps))
+            (sym (same_pieces (settled_as detail e) (λ _. refl) n (λ _. refl) s.outbox))
             (unchanged (k3 AtOutboxPiece (λ e. omega arith) ∙ k2 AtOutboxPiece (λ e. omega arith) ∙ k1 AtOutboxPiece (λ e. omega arith)) has.outbox_contents);
         evidence = k3 AtEvidence (λ e. omega arith) ∙ two.rows_are ∙ ap (put_row (evidence_row n e)) (k1 AtEvidence (λ e. omega arith) ∙ has.evidence)
             ∙ put_among n detail e s.outbox rising x found (no_evidence_yet x.evidence fresh_unsettled);
         waits = three.rows_are ∙ waits_left a.now s n detail e by it place;
       };
       version = still_origin (k3 AtOrigin (λ e. omega arith) ∙ k2 AtOrigin (λ e. omega arith) ∙ k1 AtOrigin (λ e. omega arith)) it.version;
-      begun = still_resent (k3 AtResent (λ e. omega arith) ∙ k2 AtResent (λ e. omega arith) ∙ k1 AtResent (λ e. omega arith)) (resent_changed (settled_as detail e) (λ _. refl) (λ _. refl) (λ _. refl) n _ s.outbox it.begun);
-      left = still_emptied way AtWaiting c.now d.now three.others (still_emptied way AtEvidence b.now c.now two.others (still_emptied way AtOutbox a.now b.now one.others it.left));
+      begun = still_resent (k3 AtResent (λ e. omega arith) ∙ k2 AtResent (λ e. omega arith) ∙ k1 AtResent (λ e. omega arith))
+          (resent_changed (settled_as detail e) (λ _. refl) (λ _. refl) (λ _. refl) n _ s.outbox it.begun);
+      left = still_emptied way AtWaiting c.now d.now three.others
+          (still_emptied way AtEvidence b.now c.now two.others (still_emptied way AtOutbox a.now b.now one.others it.left));
       receipts = it.receipts;
       documents = (it.documents.0, subst (AreNumbers s.next_out) (sym (same_numbers (settled_as detail e) (λ _. refl) n s.outbox)) it.documents.1);
     }
@@ -259,7 +278,8 @@ pub ends : {S : Type 0} (g : Ghosts S) (old : Held S) (one two last : Connected)
     → (count : ℕ) → count ≢ 0 → (HasCleanDisk two → HasCleanDisk one) → (HasCleanDisk last → HasCleanDisk two)
     → (HasCleanDisk one → IsTrue (state g old).is_open)
     → (HasCleanDisk one → (way : Way) (s : State) → Stands (VersionThree way) (state g old).now s → (e : Evidence)
-    → ChangesTable (state g (record old { in_transaction = true })) one (store_schema way) outbox_tree (map out_row (change_document s w (settled_as detail e)).outbox) × (count ≡ length (filter (λ (d : OutEntry). d.number == w) s.outbox)))
+    → ChangesTable (state g (record old { in_transaction = true })) one (store_schema way) outbox_tree
+    (map out_row (change_document s w (settled_as detail e)).outbox) × (count ≡ length (filter (λ (d : OutEntry). d.number == w) s.outbox)))
     → (HasCleanDisk two → (way : Way) → one.now.schema ≡ store_schema way
     → ChangesTable one two (store_schema way) evidence_tree (put_row (evidence_row w e) (one.now.trees evidence_tree))
     × (are_fresh (one.now.trees evidence_tree) (evidence_row w e ∷ []) ≡ true))
@@ -284,8 +304,10 @@ ends g old one two last n w detail e by beyond within count some was_one was_two
           let rows : one.now.trees evidence_tree ≡ evidence_rows s.outbox = first.0.others.1.1.1.1.1.0 (λ e. omega arith) ∙ stood.entries.evidence in
           let not_yet = fresh_unsettled w e s.outbox found.0 found.1 (ap (λ l. are_fresh l (evidence_row w e ∷ [])) (sym rows) ∙ next.1) in
           let place = split out_number w s.outbox (numbers_rise out_number s.next_out s.outbox stood.documents.1) (λ none. some (first.1 ∙ none)) in
-          let stands : Holds last.now (change_document s w (settled_as detail e)) = record { way = way; stands = stands_settled way begun one two last s w detail e found.0 by stood found.1 not_yet place first.0 next.0 third } in
-          subst (λ k. (t : State) × (settled_in k detail e s ≡ Some t) × Holds last.now t) it (change_document s w (settled_as detail e), settled_next s w detail e found.0 found.1 not_yet by, stands);
+          let stands : Holds last.now (change_document s w (settled_as detail e)) =
+          record { way = way; stands = stands_settled way begun one two last s w detail e found.0 by stood found.1 not_yet place first.0 next.0 third } in
+          subst (λ k. (t : State) × (settled_in k detail e s ≡ Some t) × Holds last.now t) it
+          (change_document s w (settled_as detail e), settled_next s w detail e found.0 found.1 not_yet by, stands);
     }
   where
     same_number : w < end_of_numbers → w ≡ n

@@ -24,7 +24,8 @@ pub puts_chosen : (rows : List Row) (cs shown : List Row) → HasRows rows shown
 puts_chosen rows [] shown has = subst (HasRows rows) (sym (append-nil shown)) has
 puts_chosen rows (c ∷ cs) shown has =
     let next = put_row (Int (next_rowid rows) ∷ c) rows in
-    subst (HasRows (put_all next (numbered Chosen next (map (λ c. Null ∷ c) cs)))) (append_assoc shown (c ∷ []) cs) (puts_chosen next cs (shown ++ c ∷ []) (one_more_row rows shown c has))
+    subst (HasRows (put_all next (numbered Chosen next (map (λ c. Null ∷ c) cs)))) (append_assoc shown (c ∷ []) cs)
+    (puts_chosen next cs (shown ++ c ∷ []) (one_more_row rows shown c has))
 
 -- ---- entries in some order
 
@@ -42,7 +43,9 @@ parted p (x ∷ xs) = go (p x) (parted p xs)
 pub shared : {X : Type 0} (p : X → Bool) (moved left all : List X) → IsPermutation (moved ++ left) all
     → IsPermutation ((moved ++ filter p left) ++ filter (λ x. not (p x)) left) all
 shared p moved left all are =
-    IsPermutation-trans _ _ _ (subst (λ l. IsPermutation l (moved ++ left)) (sym (append_assoc moved (filter p left) (filter (λ x. not (p x)) left))) (IsPermutation-append_right moved _ _ (parted p left))) are
+    IsPermutation-trans _ _ _
+    (subst (λ l. IsPermutation l (moved ++ left)) (sym (append_assoc moved (filter p left) (filter (λ x. not (p x)) left)))
+    (IsPermutation-append_right moved _ _ (parted p left))) are
 
 module _ {X : Type 0} (row : X → Row) where
   abbrev pub under : ℤ × X → Row
@@ -80,16 +83,22 @@ module _ {X : Type 0} (row : X → Row) where
         → HasRows (map under (filter (λ y. not (passes terms params (under y))) it.entries)) (map row (filter (λ x. not (p x)) xs))
     keeps_rest rows xs has it =
         let rest = filter (λ y. not (hits y)) it.entries in
-        let picks : filter (λ y. not (passes terms params (under y))) it.entries ≡ rest = filter_agree (λ (y : ℤ × X). not (passes terms params (under y))) (λ y. not (hits y)) (λ y. ap not (tests y.0 y.1)) it.entries in
-        let up : IsTable (map under rest) = ascending-map _ under _ (ascending-filter _ (λ (y : ℤ × X). not (hits y)) it.entries (ascending_from_map _ under it.entries (subst IsTable it.rows_are has.rise))) in
+        let picks : filter (λ y. not (passes terms params (under y))) it.entries ≡ rest =
+        filter_agree (λ (y : ℤ × X). not (passes terms params (under y))) (λ y. not (hits y)) (λ y. ap not (tests y.0 y.1)) it.entries in
+        let up : IsTable (map under rest) =
+        ascending-map _ under _ (ascending-filter _ (λ (y : ℤ × X). not (hits y)) it.entries
+        (ascending_from_map _ under it.entries (subst IsTable it.rows_are has.rise))) in
         let kept : IsPermutation (map (λ y. y.1) rest) (filter (λ x. not (p x)) xs) =
-        subst (λ l. IsPermutation l (filter (λ x. not (p x)) xs)) (filter-map (λ (x : X). not (p x)) (λ (y : ℤ × X). y.1) it.entries) (IsPermutation-filter (λ x. not (p x)) _ _ it.same) in
+        subst (λ l. IsPermutation l (filter (λ x. not (p x)) xs)) (filter-map (λ (x : X). not (p x)) (λ (y : ℤ × X). y.1) it.entries)
+        (IsPermutation-filter (λ x. not (p x)) _ _ it.same) in
         subst (λ l. HasRows (map under l) (map row (filter (λ x. not (p x)) xs))) (sym picks)
         (record {
           numbered = map (λ y. (y.0, row y.1)) rest;
           rows_are = sym (map-map numbered_row (λ (y : ℤ × X). (y.0, row y.1)) rest);
           rise = up;
-          columns = subst (λ l. IsPermutation l (map row (filter (λ x. not (p x)) xs))) (map-map row (λ (y : ℤ × X). y.1) rest ∙ sym (map-map (λ (r : ℤ × Row). r.1) (λ (y : ℤ × X). (y.0, row y.1)) rest)) (IsPermutation-map row _ _ kept);
+          columns = subst (λ l. IsPermutation l (map row (filter (λ x. not (p x)) xs)))
+              (map-map row (λ (y : ℤ × X). y.1) rest ∙ sym (map-map (λ (r : ℤ × Row). r.1) (λ (y : ℤ × X). (y.0, row y.1)) rest))
+              (IsPermutation-map row _ _ kept);
         })
 
     -- a table has the rows of the picked ones too, once what a query shows of them was put in
@@ -103,7 +112,8 @@ module _ {X : Type 0} (row : X → Row) where
         let f = λ (x : X). Null ∷ row x in
         let picked = filter hits it.entries in
         let picks : chosen_rows terms params (db tree) ≡ map under picked =
-        ap (chosen_rows terms params) it.rows_are ∙ filter-map (passes terms params) under it.entries ∙ ap (map under) (filter_agree (λ (y : ℤ × X). passes terms params (under y)) hits (λ y. tests y.0 y.1) it.entries) in
+        ap (chosen_rows terms params) it.rows_are ∙ filter-map (passes terms params) under it.entries
+        ∙ ap (map under) (filter_agree (λ (y : ℤ × X). passes terms params (under y)) hits (λ y. tests y.0 y.1) it.entries) in
         let shown : map (shown_of project params) (chosen_rows terms params (db tree)) ≡ map f (filter p (map (λ y. y.1) it.entries)) =
         ap (map (shown_of project params)) picks
         ∙ map-map (shown_of project params) under picked
@@ -111,18 +121,23 @@ module _ {X : Type 0} (row : X → Row) where
         ∙ sym (map-map f (λ (y : ℤ × X). y.1) picked)
         ∙ ap (map f) (sym (filter-map p (λ (y : ℤ × X). y.1) it.entries)) in
         let all : IsPermutation (map f (filter p xs)) sources =
-        IsPermutation-trans _ _ _ (IsPermutation-sym _ _ (IsPermutation-map f _ _ (IsPermutation-filter p _ _ it.same))) (subst (λ l. IsPermutation l sources) shown same) in
+        IsPermutation-trans _ _ _ (IsPermutation-sym _ _ (IsPermutation-map f _ _ (IsPermutation-filter p _ _ it.same)))
+        (subst (λ l. IsPermutation l sources) shown same) in
         let cast = λ (s : Row). cast_row table (drop 0 s) in
-        let kept : map cast (map f (filter p xs)) ≡ map f (filter p xs) = map-map cast f (filter p xs) ∙ map_same (λ (x : X). cast (f x)) f casts (filter p xs) in
-        let news : IsPermutation (map f (filter p xs)) (map cast sources) = subst (λ l. IsPermutation l (map cast sources)) kept (IsPermutation-map cast _ _ all) in
+        let kept : map cast (map f (filter p xs)) ≡ map f (filter p xs) = map-map cast f (filter p xs)
+        ∙ map_same (λ (x : X). cast (f x)) f casts (filter p xs) in
+        let news : IsPermutation (map f (filter p xs)) (map cast sources) =
+        subst (λ l. IsPermutation l (map cast sources)) kept (IsPermutation-map cast _ _ all) in
         let back = pull_back f _ _ news (filter p xs) refl in
         let cells : map f back.0 ≡ map (λ c. Null ∷ c) (map row back.0) = sym (map-map (λ (c : Row). Null ∷ c) row back.0) in
         let put : HasRows (put_all rows (numbered Chosen rows (map cast sources))) (map row there ++ map row back.0) =
-        subst (λ l. HasRows (put_all rows (numbered Chosen rows l)) (map row there ++ map row back.0)) (sym (back.2 ∙ cells)) (puts_chosen rows (map row back.0) (map row there) held) in
+        subst (λ l. HasRows (put_all rows (numbered Chosen rows l)) (map row there ++ map row back.0)) (sym (back.2 ∙ cells))
+        (puts_chosen rows (map row back.0) (map row there) held) in
         record {
           numbered = put.numbered;
           rows_are = put.rows_are;
           rise = put.rise;
           columns = IsPermutation-trans _ _ _ put.columns
-              (subst (IsPermutation (map row there ++ map row back.0)) (sym (map-append row there (filter p xs))) (IsPermutation-append_right (map row there) _ _ (IsPermutation-map row _ _ (IsPermutation-sym _ _ back.1))));
+              (subst (IsPermutation (map row there ++ map row back.0)) (sym (map-append row there (filter p xs)))
+              (IsPermutation-append_right (map row there) _ _ (IsPermutation-map row _ _ (IsPermutation-sym _ _ back.1))));
         }

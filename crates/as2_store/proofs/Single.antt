@@ -252,16 +252,19 @@ takes : (n m : ℕ) (c d : List ℕ) (rows : List Row) → rows ≡ map piece_sh
 takes n m c d rows one other zero within = refl
 takes n m c d rows one other (suc i) within =
     let less : i ≤ length rows = omega (arith, within) in
-    let next = bytes_in (piece_bytes c i) (piece_bytes d i) (sym (bytes_at rows n c i [] one (omega (arith, within))) ∙ bytes_at rows m d i [] other (omega (arith, within))) in
+    let next = bytes_in (piece_bytes c i) (piece_bytes d i)
+    (sym (bytes_at rows n c i [] one (omega (arith, within))) ∙ bytes_at rows m d i [] other (omega (arith, within))) in
     subst (λ k. take (k * piece_size) c ≡ take (k * piece_size) d) (omega arith)
-    (sym (one_more c (take (i * piece_size) c) (piece_bytes c i) i refl refl) ∙ ap₂ ◌++◌ (takes n m c d rows one other i less) next ∙ one_more d (take (i * piece_size) d) (piece_bytes d i) i refl refl)
+    (sym (one_more c (take (i * piece_size) c) (piece_bytes c i) i refl refl) ∙ ap₂ ◌++◌ (takes n m c d rows one other i less) next
+    ∙ one_more d (take (i * piece_size) d) (piece_bytes d i) i refl refl)
 
 -- the same pieces are of the same content
 joins : (n m : ℕ) (c d : List ℕ) → map piece_shown (pieces n c) ≡ map piece_shown (pieces m d) → c ≡ d
 joins n m c d same =
     let rows = map piece_shown (pieces n c) in
     let k = length rows in
-    sym (all_taken c k (omega (arith, as_many rows n c refl))) ∙ takes n m c d rows refl same k (omega arith) ∙ all_taken d k (omega (arith, as_many rows m d same))
+    sym (all_taken c k (omega (arith, as_many rows n c refl))) ∙ takes n m c d rows refl same k (omega arith)
+    ∙ all_taken d k (omega (arith, as_many rows m d same))
 
 -- the number in the first column of a piece
 abbrev piece_number : Row → ℕ
@@ -281,7 +284,8 @@ module _ {X : Type 0} (number : X → ℕ) (content : X → List ℕ) where
   found : (xs : List X) → IsDistinct (λ a b. a == b) (map number xs) → AllByRecursion (IsFound xs) xs
   unfolding IsDistinct
   found [] distinct = tt
-  found (x ∷ xs) distinct = (ap (λ t. cond t (Some x) (find (λ z. number z == number x) xs)) (itself (number x)), further x xs xs distinct.0 (found xs distinct.1))
+  found (x ∷ xs) distinct =
+      (ap (λ t. cond t (Some x) (find (λ z. number z == number x) xs)) (itself (number x)), further x xs xs distinct.0 (found xs distinct.1))
     where
       itself : (n : ℕ) → (n == n) ≡ true
       itself n = grind (arith, nat_tests)
@@ -299,9 +303,12 @@ module _ {X : Type 0} (number : X → ℕ) (content : X → List ℕ) where
       filter-map is_own piece_shown (all_pieces number content ys)
       ∙ ap (λ k. map piece_shown (filter (λ (p : Piece). p.number == k) (all_pieces number content ys))) same
       ∙ ap (map piece_shown) (gathers number content _ ys y second there) in
-      let rise : (n : ℕ) (c : List ℕ) → IsAscending (λ (a b : Row). value_cmp (column a 1) (column b 1) ≡ Less) (map piece_shown (pieces n c)) = λ n c. ascending-map _ piece_shown (pieces n c) (pieces_rise n c) in
+      let rise : (n : ℕ) (c : List ℕ)
+      → IsAscending (λ (a b : Row). value_cmp (column a 1) (column b 1) ≡ Less) (map piece_shown (pieces n c)) =
+      λ n c. ascending-map _ piece_shown (pieces n c) (pieces_rise n c) in
       joins (number x) (number y) (content x) (content y)
-      (one_order (λ a b. value_cmp (column a 1) (column b 1)) (on_total (λ (r : Row). column r 1) value_cmp_total) _ _ (rise (number x) (content x)) (rise (number y) (content y))
+      (one_order (λ a b. value_cmp (column a 1) (column b 1)) (on_total (λ (r : Row). column r 1) value_cmp_total) _ _
+      (rise (number x) (content x)) (rise (number y) (content y))
       (subst₂ IsPermutation left right both))
 
 -- ---- evidence
@@ -319,7 +326,9 @@ same_evidence : (ds es : List OutEntry) → evidence_rows ds ≡ evidence_rows e
     → (d e : OutEntry) → IsFound (λ (x : OutEntry). x.number) (λ x. x.content) ds d → IsFound (λ (x : OutEntry). x.number) (λ x. x.content) es e
     → d.number ≡ e.number → d.evidence ≡ e.evidence
 same_evidence ds es rows first second d e here there same =
-    let all : receipts ds ≡ receipts es = same_entries row_of (λ _. ⊤) (λ _. ⊤) (λ a b _ _ rows. receipt_same a b rows) (receipts ds) (receipts es) (sym (rows_of ds) ∙ rows ∙ rows_of es) (all_of (λ _. ⊤) (λ _. tt) _) (all_of (λ _. ⊤) (λ _. tt) _) in
+    let all : receipts ds ≡ receipts es =
+    same_entries row_of (λ _. ⊤) (λ _. ⊤) (λ a b _ _ rows. receipt_same a b rows) (receipts ds) (receipts es)
+    (sym (rows_of ds) ∙ rows ∙ rows_of es) (all_of (λ _. ⊤) (λ _. tt) _) (all_of (λ _. ⊤) (λ _. tt) _) in
     sym (of_first d.number d.evidence)
     ∙ ap first_evidence (sym (own_receipt _ ds d first here) ∙ ap₂ of_number same all ∙ own_receipt _ es e second there)
     ∙ of_first e.number e.evidence
@@ -369,7 +378,8 @@ told_by_rows : (rows : List Row) (ds es : List OutEntry) → numbers_of ds ≡ n
     → HasResent rows es → Told ds es
 told_by_rows rows ds es numbers distinct a b =
     let kept : filter a.was (numbers_of ds) ≡ filter b.was (numbers_of ds) =
-    sym (resent_numbers (filter a.was (numbers_of ds))) ∙ ap (map piece_number) (sym a.rows_are ∙ b.rows_are) ∙ resent_numbers (filter b.was (numbers_of es)) ∙ ap (filter b.was) (sym numbers) in
+    sym (resent_numbers (filter a.was (numbers_of ds))) ∙ ap (map piece_number) (sym a.rows_are ∙ b.rows_are)
+    ∙ resent_numbers (filter b.was (numbers_of es)) ∙ ap (filter b.was) (sym numbers) in
     record {
       by = λ tries n. nat_le 1 tries || b.was n;
       first = both ds a.begun (all_from_map (λ n. a.was n ≡ b.was n) (λ (d : OutEntry). d.number) ds (told_alike a.was b.was (numbers_of ds) distinct kept));
@@ -419,26 +429,35 @@ paired P Q (x ∷ xs) p q = ((p.0, q.0), paired P Q xs p.1 q.1)
 pub one_state : (layout : Layout) (d : Database) (s t : State) → Stands layout d s → Stands layout d t → s ≡ t
 one_state layout d s t a b =
     let counters : meta_row (number_of layout) s.next_in s.next_out ∷ [] ≡ meta_row (number_of layout) t.next_in t.next_out ∷ [] = sym a.meta ∙ b.meta in
-    let at : (k : ℕ) → column (meta_row (number_of layout) s.next_in s.next_out) k ≡ column (meta_row (number_of layout) t.next_in t.next_out) k = λ k. ap (λ l. column (get_or l 0 []) k) counters in
+    let at : (k : ℕ) → column (meta_row (number_of layout) s.next_in s.next_out) k ≡ column (meta_row (number_of layout) t.next_in t.next_out) k =
+    λ k. ap (λ l. column (get_or l 0 []) k) counters in
     let next_in = whole_in s.next_in t.next_in (at 3) in
     let next_out = whole_in s.next_out t.next_out (at 4) in
     let version = one_version layout d s.version t.version a.version b.version in
     let ins : s.inbox ≡ t.inbox =
-    same_entries in_row (IsFound (λ (e : InEntry). e.number) (λ e. e.posted.content) s.inbox) (IsFound (λ (e : InEntry). e.number) (λ e. e.posted.content) t.inbox)
+    same_entries in_row (IsFound (λ (e : InEntry). e.number) (λ e. e.posted.content) s.inbox)
+    (IsFound (λ (e : InEntry). e.number) (λ e. e.posted.content) t.inbox)
     (λ x y here there row.
     let rows = in_same (in_summary x) (in_summary y) row in
     ap₂ in_entry rows
-    (same_content (λ (e : InEntry). e.number) (λ e. e.posted.content) _ s.inbox t.inbox a.entries.inbox_contents b.entries.inbox_contents a.receipts.1.distinct b.receipts.1.distinct x y here there (ap (λ (r : InRow). r.number) rows)))
-    s.inbox t.inbox (sym a.entries.inbox ∙ b.entries.inbox) (found (λ (e : InEntry). e.number) (λ e. e.posted.content) s.inbox a.receipts.1.distinct) (found (λ (e : InEntry). e.number) (λ e. e.posted.content) t.inbox b.receipts.1.distinct) in
+    (same_content (λ (e : InEntry). e.number)
+    (λ e. e.posted.content) _ s.inbox t.inbox a.entries.inbox_contents b.entries.inbox_contents a.receipts.1.distinct b.receipts.1.distinct x y here there (ap (λ (r : InRow). r.number) rows)))
+    s.inbox t.inbox (sym a.entries.inbox ∙ b.entries.inbox)
+    (found (λ (e : InEntry). e.number) (λ e. e.posted.content) s.inbox a.receipts.1.distinct)
+    (found (λ (e : InEntry). e.number) (λ e. e.posted.content) t.inbox b.receipts.1.distinct) in
     let out_rows : map out_row s.outbox ≡ map out_row t.outbox = sym a.entries.outbox ∙ b.entries.outbox in
-    let begun : Told s.outbox t.outbox = told layout d s.outbox t.outbox (sym (row_numbers s.outbox) ∙ ap (map piece_number) out_rows ∙ row_numbers t.outbox) a.documents.1.distinct a.begun b.begun in
+    let begun : Told s.outbox t.outbox =
+    told layout d s.outbox t.outbox
+    (sym (row_numbers s.outbox) ∙ ap (map piece_number) out_rows ∙ row_numbers t.outbox) a.documents.1.distinct a.begun b.begun in
     let outs : s.outbox ≡ t.outbox =
     same_entries out_row (IsHere s.outbox t.outbox begun) (IsThere s.outbox t.outbox begun)
     (λ x y here there row.
     let rows = out_same (out_summary x) (out_summary y) row in
     let number = ap (λ (r : OutRow). r.number) rows in
-    let content = same_content (λ (d : OutEntry). d.number) (λ d. d.content) _ s.outbox t.outbox a.entries.outbox_contents b.entries.outbox_contents a.documents.1.distinct b.documents.1.distinct x y here.0 there.0 number in
-    let evidence = same_evidence s.outbox t.outbox (sym a.entries.evidence ∙ b.entries.evidence) a.documents.1.distinct b.documents.1.distinct x y here.0 there.0 number in
+    let content = same_content (λ (d : OutEntry). d.number)
+    (λ d. d.content) _ s.outbox t.outbox a.entries.outbox_contents b.entries.outbox_contents a.documents.1.distinct b.documents.1.distinct x y here.0 there.0 number in
+    let evidence = same_evidence s.outbox t.outbox
+    (sym a.entries.evidence ∙ b.entries.evidence) a.documents.1.distinct b.documents.1.distinct x y here.0 there.0 number in
     let was = same_begun s.outbox t.outbox begun x y here there (ap (λ (r : OutRow). r.tries) rows) number in
     λ i. out_entry (rows i) (was i) (content i) (evidence i))
     s.outbox t.outbox out_rows
@@ -461,7 +480,8 @@ no_origin n (e ∷ es) same = let at : whole n ≡ Null = ap (λ l. column (get_
 
 pub one_way : (v w : Way) (d e : Database) → e.trees ≡ d.trees → (s t : State) → Stands (VersionThree v) d s → Stands (VersionThree w) e t → v ≡ w
 one_way Fresh Fresh d e same s t a b = refl
-one_way Fresh Migrated d e same s t a b = absurd (no_origin a.version.number t.inbox (sym a.version.rows_are ∙ ap (λ (f : Trees). f 13) (sym same) ∙ b.entries.inbox))
+one_way Fresh Migrated d e same s t a b =
+    absurd (no_origin a.version.number t.inbox (sym a.version.rows_are ∙ ap (λ (f : Trees). f 13) (sym same) ∙ b.entries.inbox))
 one_way Migrated Fresh d e same s t a b = absurd (no_origin b.version.number s.inbox (sym b.version.rows_are ∙ ap (λ (f : Trees). f 13) same ∙ a.entries.inbox))
 one_way Migrated Migrated d e same s t a b = refl
 
@@ -481,7 +501,8 @@ one_at_most (VersionTwo v) (VersionTwo w) d s t a b = one_state (VersionTwo w) d
 one_at_most (VersionTwo v) (VersionThree w) d s t a b = absurd (omega (arith, numbered_apart (VersionTwo v) (VersionThree w) d s t a b))
 one_at_most (VersionThree v) VersionOne d s t a b = absurd (omega (arith, numbered_apart (VersionThree v) VersionOne d s t a b))
 one_at_most (VersionThree v) (VersionTwo w) d s t a b = absurd (omega (arith, numbered_apart (VersionThree v) (VersionTwo w) d s t a b))
-one_at_most (VersionThree v) (VersionThree w) d s t a b = one_state (VersionThree w) d s t (subst (λ way. Stands (VersionThree way) d s) (one_way v w d d refl s t a b) a) b
+one_at_most (VersionThree v) (VersionThree w) d s t a b =
+    one_state (VersionThree w) d s t (subst (λ way. Stands (VersionThree way) d s) (one_way v w d d refl s t a b) a) b
 
 pub one_held : (d : Database) (s t : State) → Holds d s → Holds d t → s ≡ t
 one_held d s t a b = one_at_most (VersionThree a.way) (VersionThree b.way) d s t a.stands b.stands
@@ -490,4 +511,5 @@ one_held d s t a b = one_at_most (VersionThree a.way) (VersionThree b.way) d s t
 pub one_kept : (db : Trees) (s t : State) → Keeps db s → Keeps db t → s ≡ t
 one_kept db s t a b =
     let at : Way → Database = λ way. record { schema = store_schema way; trees = db } in
-    one_state (VersionThree b.way) (at b.way) s t (subst (λ way. Stands (VersionThree way) (at way) s) (one_way a.way b.way (at a.way) (at b.way) refl s t a.stands b.stands) a.stands) b.stands
+    one_state (VersionThree b.way) (at b.way) s t
+    (subst (λ way. Stands (VersionThree way) (at way) s) (one_way a.way b.way (at a.way) (at b.way) refl s t a.stands b.stands) a.stands) b.stands

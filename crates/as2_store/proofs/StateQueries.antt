@@ -67,7 +67,8 @@ kept_all wanted (d ∷ ds) = go (is_between wanted d.detail) (is_in wanted d) re
   where
     go : (between of : Bool) → is_in wanted d ≡ of → (between && of) ≡ of
         → filter (is_in wanted) (filter (λ (x : OutEntry). is_between wanted x.detail) ds) ≡ filter (is_in wanted) ds
-        → filter (is_in wanted) (cond between (d ∷ filter (λ (x : OutEntry). is_between wanted x.detail) ds) (filter (λ (x : OutEntry). is_between wanted x.detail) ds)) ≡ filter (is_in wanted) (d ∷ ds)
+        → filter (is_in wanted) (cond between (d ∷ filter (λ (x : OutEntry). is_between wanted x.detail) ds)
+        (filter (λ (x : OutEntry). is_between wanted x.detail) ds)) ≡ filter (is_in wanted) (d ∷ ds)
     go true of own is rest = ap (λ l. cond (is_in wanted d) (d ∷ l) l) rest
     go false true own is rest = absurd cc
     go false false own is rest = rest ∙ sym (ap (λ t. cond t (d ∷ filter (is_in wanted) ds) (filter (is_in wanted) ds)) own)
@@ -79,8 +80,11 @@ lists_between wanted old new rows h s r =
     let here = r.stands (shown_open out_by_details_text (state_codes wanted) old new rows h) in
     let way = here.way in
     let it = here.stands in
-    reads_rows way out_by_details_text (out_by_details_plain way) (out_by_details_unlisted way) outbox_tree details_terms out_column_terms out_names (out_by_details_is way) (state_codes wanted) out_row out_shown (λ _. refl) (λ (d : OutEntry). is_between wanted d.detail)
-    (λ d. ap₂ ◌&&◌ (numbers_at_least (detail_code d.detail) (detail_code (first_detail wanted))) (ap (λ b. b && true) (numbers_at_most (detail_code d.detail) (detail_code (last_detail wanted))) ∙ and_true _))
+    reads_rows way out_by_details_text (out_by_details_plain way)
+    (out_by_details_unlisted way) outbox_tree details_terms out_column_terms out_names (out_by_details_is way)
+    (state_codes wanted) out_row out_shown (λ _. refl) (λ (d : OutEntry). is_between wanted d.detail)
+    (λ d. ap₂ ◌&&◌ (numbers_at_least (detail_code d.detail) (detail_code (first_detail wanted)))
+    (ap (λ b. b && true) (numbers_at_most (detail_code d.detail) (detail_code (last_detail wanted))) ∙ and_true _))
     old new rows h it.schema s.outbox it.entries.outbox
     (entries_rise out_row (λ (d : OutEntry). d.number) (λ _. refl) s.next_out s.outbox it.documents.1)
 
@@ -98,6 +102,7 @@ one_more_document wanted ds d done row so_far is =
     by false l = sym (append-nil l)
 
     joined : (wanted : Option DetailClass)
-        → cond (detail_in wanted d.detail) (map out_summary (filter (is_in wanted) ds) ++ out_summary d ∷ []) (map out_summary (filter (is_in wanted) ds)) ≡ (map out_summary (filter (is_in wanted) ds) ++ map out_summary (filter (is_in wanted) (d ∷ [])))
+        → cond (detail_in wanted d.detail) (map out_summary (filter (is_in wanted) ds) ++ out_summary d ∷ [])
+        (map out_summary (filter (is_in wanted) ds)) ≡ (map out_summary (filter (is_in wanted) ds) ++ map out_summary (filter (is_in wanted) (d ∷ [])))
     joined None = by true (map out_summary (filter (is_in None) ds))
     joined (Some state) = by (detail_in (Some state) d.detail) (map out_summary (filter (is_in (Some state)) ds))

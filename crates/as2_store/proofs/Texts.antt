@@ -75,7 +75,8 @@ abbrev pub meta_columns : List Term
 meta_columns = col 1 1 ∷ col 1 2 ∷ col 1 3 ∷ col 1 4 ∷ []
 
 abbrev pub meta_command : Command
-meta_command = Select (record { lets = []; body = over_table meta_tree [] meta_columns [] (lit (Int (negsuc 0))) }) (codes "kind" ∷ codes "version" ∷ codes "next_receipt" ∷ codes "next_document" ∷ [])
+meta_command = Select (record { lets = []; body = over_table meta_tree [] meta_columns [] (lit (Int (negsuc 0))) })
+    (codes "kind" ∷ codes "version" ∷ codes "next_receipt" ∷ codes "next_document" ∷ [])
 
 -- where the table stands before all others
 abbrev pub with_meta_first : List Table → List Index → Schema
@@ -178,7 +179,8 @@ abbrev pub key_terms : List Term
 key_terms = op2 (Compare Eq Binary) (col 1 2) (col 0 0) ∷ op2 (Compare Eq Binary) (col 1 3) (col 0 1) ∷ op2 (Compare Eq Binary) (col 1 4) (col 0 2) ∷ []
 
 pub in_by_key_is : (way : Way)
-    → command_of (understood (store_schema way) in_by_key_text) ≡ Select (record { lets = []; body = over_table (inbox_tree way) key_terms in_column_terms by_number (lit (Int (negsuc 0))) }) in_names
+    → command_of (understood (store_schema way) in_by_key_text) ≡ Select
+    (record { lets = []; body = over_table (inbox_tree way) key_terms in_column_terms by_number (lit (Int (negsuc 0))) }) in_names
 unfolding understood everything
 in_by_key_is Fresh = refl
 in_by_key_is Migrated = refl
@@ -197,7 +199,8 @@ abbrev pub number_terms : List Term
 number_terms = op2 (Compare Eq Binary) (col 1 0) (col 0 0) ∷ []
 
 pub in_by_number_is : (way : Way)
-    → command_of (understood (store_schema way) in_by_number_text) ≡ Select (record { lets = []; body = over_table (inbox_tree way) number_terms in_column_terms by_number (lit (Int (negsuc 0))) }) in_names
+    → command_of (understood (store_schema way) in_by_number_text) ≡ Select
+    (record { lets = []; body = over_table (inbox_tree way) number_terms in_column_terms by_number (lit (Int (negsuc 0))) }) in_names
 unfolding understood everything
 in_by_number_is Fresh = refl
 in_by_number_is Migrated = refl
@@ -213,7 +216,8 @@ in_by_number_unlisted Fresh = refl
 in_by_number_unlisted Migrated = refl
 
 pub in_all_is : (way : Way)
-    → command_of (understood (store_schema way) in_all_text) ≡ Select (record { lets = []; body = over_table (inbox_tree way) [] in_column_terms by_number (lit (Int (negsuc 0))) }) in_names
+    → command_of (understood (store_schema way) in_all_text) ≡ Select
+    (record { lets = []; body = over_table (inbox_tree way) [] in_column_terms by_number (lit (Int (negsuc 0))) }) in_names
 unfolding understood everything
 in_all_is Fresh = refl
 in_all_is Migrated = refl
@@ -235,7 +239,8 @@ abbrev pub piece_column_terms : List Term
 piece_column_terms = col 1 1 ∷ col 1 2 ∷ col 1 3 ∷ []
 
 pub in_pieces_is : (way : Way) → command_of (understood (store_schema way) in_pieces_text)
-    ≡ Select (record { lets = []; body = over_table (inbox_piece_tree way) piece_terms piece_column_terms (by_column 2) (lit (Int (negsuc 0))) }) (codes "number" ∷ codes "position" ∷ codes "bytes" ∷ [])
+    ≡ Select (record { lets = []; body = over_table (inbox_piece_tree way) piece_terms piece_column_terms (by_column 2) (lit (Int (negsuc 0))) })
+    (codes "number" ∷ codes "position" ∷ codes "bytes" ∷ [])
 unfolding understood everything
 in_pieces_is Fresh = refl
 in_pieces_is Migrated = refl
@@ -292,7 +297,8 @@ abbrev pub id_terms : List Term
 id_terms = op2 (Compare Eq Binary) (col 1 4) (col 0 0) ∷ []
 
 pub out_by_id_is : (way : Way)
-    → command_of (understood (store_schema way) out_by_id_text) ≡ Select (record { lets = []; body = over_table outbox_tree id_terms out_column_terms by_number (lit (Int (negsuc 0))) }) out_names
+    → command_of (understood (store_schema way) out_by_id_text) ≡ Select
+    (record { lets = []; body = over_table outbox_tree id_terms out_column_terms by_number (lit (Int (negsuc 0))) }) out_names
 unfolding understood everything
 out_by_id_is Fresh = refl
 out_by_id_is Migrated = refl
@@ -311,7 +317,8 @@ abbrev pub details_terms : List Term
 details_terms = op2 (Compare Ge Binary) (col 1 11) (col 0 0) ∷ op2 (Compare Le Binary) (col 1 11) (col 0 1) ∷ []
 
 pub out_by_details_is : (way : Way)
-    → command_of (understood (store_schema way) out_by_details_text) ≡ Select (record { lets = []; body = over_table outbox_tree details_terms out_column_terms by_number (lit (Int (negsuc 0))) }) out_names
+    → command_of (understood (store_schema way) out_by_details_text) ≡ Select
+    (record { lets = []; body = over_table outbox_tree details_terms out_column_terms by_number (lit (Int (negsuc 0))) }) out_names
 unfolding understood everything
 out_by_details_is Fresh = refl
 out_by_details_is Migrated = refl
@@ -327,7 +334,8 @@ out_by_details_unlisted Fresh = refl
 out_by_details_unlisted Migrated = refl
 
 pub out_by_number_is : (way : Way)
-    → command_of (understood (store_schema way) out_by_number_text) ≡ Select (record { lets = []; body = over_table outbox_tree number_terms out_column_terms by_number (lit (Int (negsuc 0))) }) out_names
+    → command_of (understood (store_schema way) out_by_number_text) ≡ Select
+    (record { lets = []; body = over_table outbox_tree number_terms out_column_terms by_number (lit (Int (negsuc 0))) }) out_names
 unfolding understood everything
 out_by_number_is Fresh = refl
 out_by_number_is Migrated = refl
@@ -343,7 +351,8 @@ out_by_number_unlisted Fresh = refl
 out_by_number_unlisted Migrated = refl
 
 pub out_pieces_is : (way : Way) → command_of (understood (store_schema way) out_pieces_text)
-    ≡ Select (record { lets = []; body = over_table outbox_piece_tree piece_terms piece_column_terms (by_column 2) (lit (Int (negsuc 0))) }) (codes "number" ∷ codes "position" ∷ codes "bytes" ∷ [])
+    ≡ Select (record { lets = []; body = over_table outbox_piece_tree piece_terms piece_column_terms (by_column 2) (lit (Int (negsuc 0))) })
+    (codes "number" ∷ codes "position" ∷ codes "bytes" ∷ [])
 unfolding understood everything
 out_pieces_is Fresh = refl
 out_pieces_is Migrated = refl
@@ -384,7 +393,8 @@ abbrev pub settled_column_terms : List Term
 settled_column_terms = col 1 0 ∷ []
 
 pub settled_is : (way : Way)
-    → command_of (understood (store_schema way) settled_text) ≡ Select (record { lets = []; body = over_table evidence_tree [] settled_column_terms by_number (lit (Int (negsuc 0))) }) (codes "number" ∷ [])
+    → command_of (understood (store_schema way) settled_text) ≡ Select
+    (record { lets = []; body = over_table evidence_tree [] settled_column_terms by_number (lit (Int (negsuc 0))) }) (codes "number" ∷ [])
 unfolding understood everything
 settled_is Fresh = refl
 settled_is Migrated = refl
@@ -403,7 +413,8 @@ abbrev pub detail_column_terms : List Term
 detail_column_terms = col 1 11 ∷ []
 
 pub detail_is : (way : Way)
-    → command_of (understood (store_schema way) detail_text) ≡ Select (record { lets = []; body = over_table outbox_tree [] detail_column_terms by_number (lit (Int (negsuc 0))) }) (codes "detail" ∷ [])
+    → command_of (understood (store_schema way) detail_text) ≡ Select
+    (record { lets = []; body = over_table outbox_tree [] detail_column_terms by_number (lit (Int (negsuc 0))) }) (codes "detail" ∷ [])
 unfolding understood everything
 detail_is Fresh = refl
 detail_is Migrated = refl
@@ -422,7 +433,8 @@ abbrev pub receipt_stage_column_terms : List Term
 receipt_stage_column_terms = col 1 14 ∷ []
 
 pub receipt_stage_is : (way : Way)
-    → command_of (understood (store_schema way) receipt_stage_text) ≡ Select (record { lets = []; body = over_table (inbox_tree way) [] receipt_stage_column_terms by_number (lit (Int (negsuc 0))) }) (codes "mdn" ∷ [])
+    → command_of (understood (store_schema way) receipt_stage_text) ≡ Select
+    (record { lets = []; body = over_table (inbox_tree way) [] receipt_stage_column_terms by_number (lit (Int (negsuc 0))) }) (codes "mdn" ∷ [])
 unfolding understood everything
 receipt_stage_is Fresh = refl
 receipt_stage_is Migrated = refl
@@ -514,7 +526,8 @@ abbrev pub any_due_terms : List Term
 any_due_terms = op2 (Compare Eq Binary) (col 1 2) (col 0 0) ∷ op2 (Compare Le Binary) (col 1 4) (col 0 1) ∷ []
 
 pub any_due_is : (way : Way)
-    → command_of (understood (store_schema way) any_due_text) ≡ Select (record { lets = []; body = over_table waiting_tree any_due_terms due_columns [] (lit (Int (pos 1))) }) (codes "number" ∷ [])
+    → command_of (understood (store_schema way) any_due_text) ≡ Select
+    (record { lets = []; body = over_table waiting_tree any_due_terms due_columns [] (lit (Int (pos 1))) }) (codes "number" ∷ [])
 unfolding understood everything
 any_due_is Fresh = refl
 any_due_is Migrated = refl
@@ -530,7 +543,8 @@ any_due_unlisted Fresh = refl
 any_due_unlisted Migrated = refl
 
 pub all_due_is : (way : Way)
-    → command_of (understood (store_schema way) all_due_text) ≡ Select (record { lets = []; body = over_table waiting_tree any_due_terms due_columns by_number (lit (Int (negsuc 0))) }) (codes "number" ∷ [])
+    → command_of (understood (store_schema way) all_due_text) ≡ Select
+    (record { lets = []; body = over_table waiting_tree any_due_terms due_columns by_number (lit (Int (negsuc 0))) }) (codes "number" ∷ [])
 unfolding understood everything
 all_due_is Fresh = refl
 all_due_is Migrated = refl
@@ -549,7 +563,8 @@ abbrev pub least_due_terms : List Term
 least_due_terms = op2 (Compare Ge Binary) (col 1 0) (col 0 0) ∷ op2 (Compare Lt Binary) (col 1 0) (col 0 1) ∷ op2 (Compare Le Binary) (col 1 4) (col 0 2) ∷ []
 
 pub least_due_is : (way : Way)
-    → command_of (understood (store_schema way) least_due_text) ≡ Select (record { lets = []; body = over_table waiting_tree least_due_terms due_columns by_number (lit (Int (pos 1))) }) (codes "number" ∷ [])
+    → command_of (understood (store_schema way) least_due_text) ≡ Select
+    (record { lets = []; body = over_table waiting_tree least_due_terms due_columns by_number (lit (Int (pos 1))) }) (codes "number" ∷ [])
 unfolding understood everything
 least_due_is Fresh = refl
 least_due_is Migrated = refl
@@ -571,7 +586,8 @@ abbrev pub waiting_names : List (List ℕ)
 waiting_names = codes "place" ∷ codes "kind" ∷ codes "number" ∷ codes "due" ∷ []
 
 pub waiting_read_is : (way : Way)
-    → command_of (understood (store_schema way) waiting_read_text) ≡ Select (record { lets = []; body = over_table waiting_tree [] waiting_columns by_number (lit (Int (negsuc 0))) }) waiting_names
+    → command_of (understood (store_schema way) waiting_read_text) ≡ Select
+    (record { lets = []; body = over_table waiting_tree [] waiting_columns by_number (lit (Int (negsuc 0))) }) waiting_names
 unfolding understood everything
 waiting_read_is Fresh = refl
 waiting_read_is Migrated = refl

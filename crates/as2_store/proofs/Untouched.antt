@@ -127,7 +127,8 @@ still_emptied Migrated p old new all left =
 
 pub same_emptied : (way : Way) (old new : Database) → new ≡ old → AreEmptied (emptied_tables way) old → AreEmptied (emptied_tables way) new
 same_emptied Fresh old new same left = tt
-same_emptied Migrated old new same left = (ap (λ (d : Database). d.trees first_inbox_tree) same ∙ left.0, (ap (λ (d : Database). d.trees first_piece_tree) same ∙ left.1.0, tt))
+same_emptied Migrated old new same left =
+    (ap (λ (d : Database). d.trees first_inbox_tree) same ∙ left.0, (ap (λ (d : Database). d.trees first_piece_tree) same ∙ left.1.0, tt))
 
 -- ---- what later versions keep beside
 

@@ -46,7 +46,8 @@ among kind front x back =
     ∙ ap (λ l. documents_waiting kind front ++ l) (kept_first kind (out_waiting x) (waiting_out back))
 
 both : (kind : ℕ) (front back : List OutEntry) → documents_waiting kind (front ++ back) ≡ documents_waiting kind front ++ documents_waiting kind back
-both kind front back = ap (filter (λ w. w.kind == kind)) (filter_map-append out_waiting front back) ∙ filter-append (λ w. w.kind == kind) (waiting_out front) (waiting_out back)
+both kind front back = ap (filter (λ w. w.kind == kind)) (filter_map-append out_waiting front back)
+    ∙ filter-append (λ w. w.kind == kind) (waiting_out front) (waiting_out back)
 
 -- a document is to be sent, its receipt is awaited, or its last try is open
 abbrev IsDocuments : ℕ → Type 0
@@ -86,7 +87,9 @@ at_place n due kind (Some k) = go (k == kind) refl
 
 -- lists in order of the places, before and behind those of number n
 module _ (n : ℕ) (small : n < end_of_numbers) (send1 send2 answer hear1 hear2 end1 end2 : List WaitingRow)
-    (s1 : AllByRecursion (IsEvidenceAsked to_send n) send1) (s2 : AllByRecursion (λ w. IsEvidenceAsked to_send end_of_numbers w × (n < w.number)) send2) (a : AllByRecursion (IsEvidenceAsked to_send_receipt end_of_numbers) answer)
+    (s1 : AllByRecursion (IsEvidenceAsked to_send n) send1)
+    (s2 : AllByRecursion (λ w. IsEvidenceAsked to_send end_of_numbers w × (n < w.number)) send2)
+    (a : AllByRecursion (IsEvidenceAsked to_send_receipt end_of_numbers) answer)
     (h1 : AllByRecursion (IsEvidenceAsked to_hear n) hear1) (h2 : AllByRecursion (λ w. IsEvidenceAsked to_hear end_of_numbers w × (n < w.number)) hear2)
     (e1 : AllByRecursion (IsEvidenceAsked to_end n) end1) (e2 : AllByRecursion (λ w. IsEvidenceAsked to_end end_of_numbers w × (n < w.number)) end2) where
   abbrev joined : Option WaitingRow → Option WaitingRow → Option WaitingRow → List WaitingRow
@@ -110,14 +113,16 @@ module _ (n : ℕ) (small : n < end_of_numbers) (send1 send2 answer hear1 hear2 
   cut1 (Some w) o3 o4 = append_assoc send1 (w ∷ send2) (answer ++ ((hear1 ++ cons_option o3 hear2) ++ (end1 ++ cons_option o4 end2)))
 
   spread3 : (s a h1 h2 e : List WaitingRow) → s ++ (a ++ ((h1 ++ h2) ++ e)) ≡ (s ++ (a ++ h1)) ++ (h2 ++ e)
-  spread3 s a h1 h2 e = ap (λ l. s ++ l) (ap (λ l. a ++ l) (append_assoc h1 h2 e) ∙ sym (append_assoc a h1 (h2 ++ e))) ∙ sym (append_assoc s (a ++ h1) (h2 ++ e))
+  spread3 s a h1 h2 e = ap (λ l. s ++ l) (ap (λ l. a ++ l) (append_assoc h1 h2 e) ∙ sym (append_assoc a h1 (h2 ++ e)))
+      ∙ sym (append_assoc s (a ++ h1) (h2 ++ e))
 
   cut3 : (o3 o4 : Option WaitingRow) → joined None o3 o4 ≡ before3 ++ cons_option o3 (behind3 o4)
   cut3 None o4 = spread3 (send1 ++ send2) answer hear1 hear2 (end1 ++ cons_option o4 end2)
   cut3 (Some w) o4 = spread3 (send1 ++ send2) answer hear1 (w ∷ hear2) (end1 ++ cons_option o4 end2)
 
   spread4 : (s a h e1 e2 : List WaitingRow) → s ++ (a ++ (h ++ (e1 ++ e2))) ≡ (s ++ (a ++ (h ++ e1))) ++ e2
-  spread4 s a h e1 e2 = ap (λ l. s ++ l) (ap (λ l. a ++ l) (sym (append_assoc h e1 e2)) ∙ sym (append_assoc a (h ++ e1) e2)) ∙ sym (append_assoc s (a ++ (h ++ e1)) e2)
+  spread4 s a h e1 e2 = ap (λ l. s ++ l) (ap (λ l. a ++ l) (sym (append_assoc h e1 e2)) ∙ sym (append_assoc a (h ++ e1) e2))
+      ∙ sym (append_assoc s (a ++ (h ++ e1)) e2)
 
   cut4 : (o4 : Option WaitingRow) → joined None None o4 ≡ before4 ++ cons_option o4 end2
   cut4 None = spread4 (send1 ++ send2) answer (hear1 ++ hear2) end1 end2
@@ -129,30 +134,40 @@ module _ (n : ℕ) (small : n < end_of_numbers) (send1 send2 answer hear1 hear2 
   low1 = all_weaker (IsEvidenceAsked to_send n) (λ w. place w < place_of to_send n) (λ w is. omega (arith, is.0, is.1)) send1 s1
 
   sends_low : (k : ℕ) → to_send < k → AllByRecursion (λ w. place w < place_of k n) (send1 ++ send2)
-  sends_low k less = all-append (λ w. place w < place_of k n) send1 send2 (all_weaker (IsEvidenceAsked to_send n) (λ w. place w < place_of k n) (λ w is. omega (arith, is.0, is.1, less, small)) send1 s1)
-      (all_weaker (λ w. IsEvidenceAsked to_send end_of_numbers w × (n < w.number)) (λ w. place w < place_of k n) (λ w is. omega (arith, is.0.0, is.0.1, less)) send2 s2)
+  sends_low k less = all-append (λ w. place w < place_of k n) send1 send2
+      (all_weaker (IsEvidenceAsked to_send n) (λ w. place w < place_of k n) (λ w is. omega (arith, is.0, is.1, less, small)) send1 s1)
+      (all_weaker (λ w. IsEvidenceAsked to_send end_of_numbers w × (n < w.number)) (λ w. place w < place_of k n)
+      (λ w is. omega (arith, is.0.0, is.0.1, less)) send2 s2)
 
   low3 : AllByRecursion (λ w. place w < place_of to_hear n) before3
   low3 = all-append (λ w. place w < place_of to_hear n) (send1 ++ send2) (answer ++ hear1) (sends_low to_hear (omega arith))
-      (all-append (λ w. place w < place_of to_hear n) answer hear1 (all_weaker (IsEvidenceAsked to_send_receipt end_of_numbers) (λ w. place w < place_of to_hear n) (λ w is. omega (arith, is.0, is.1)) answer a)
+      (all-append (λ w. place w < place_of to_hear n) answer hear1
+      (all_weaker (IsEvidenceAsked to_send_receipt end_of_numbers) (λ w. place w < place_of to_hear n) (λ w is. omega (arith, is.0, is.1)) answer a)
       (all_weaker (IsEvidenceAsked to_hear n) (λ w. place w < place_of to_hear n) (λ w is. omega (arith, is.0, is.1)) hear1 h1))
 
   low4 : AllByRecursion (λ w. place w < place_of to_end n) before4
   low4 = all-append (λ w. place w < place_of to_end n) (send1 ++ send2) (answer ++ ((hear1 ++ hear2) ++ end1)) (sends_low to_end (omega arith))
-      (all-append (λ w. place w < place_of to_end n) answer ((hear1 ++ hear2) ++ end1) (all_weaker (IsEvidenceAsked to_send_receipt end_of_numbers) (λ w. place w < place_of to_end n) (λ w is. omega (arith, is.0, is.1)) answer a)
+      (all-append (λ w. place w < place_of to_end n) answer ((hear1 ++ hear2) ++ end1)
+      (all_weaker (IsEvidenceAsked to_send_receipt end_of_numbers) (λ w. place w < place_of to_end n) (λ w is. omega (arith, is.0, is.1)) answer a)
       (all-append (λ w. place w < place_of to_end n) (hear1 ++ hear2) end1
-      (all-append (λ w. place w < place_of to_end n) hear1 hear2 (all_weaker (IsEvidenceAsked to_hear n) (λ w. place w < place_of to_end n) (λ w is. omega (arith, is.0, is.1, small)) hear1 h1)
-      (all_weaker (λ w. IsEvidenceAsked to_hear end_of_numbers w × (n < w.number)) (λ w. place w < place_of to_end n) (λ w is. omega (arith, is.0.0, is.0.1)) hear2 h2))
+      (all-append (λ w. place w < place_of to_end n) hear1 hear2
+      (all_weaker (IsEvidenceAsked to_hear n) (λ w. place w < place_of to_end n) (λ w is. omega (arith, is.0, is.1, small)) hear1 h1)
+      (all_weaker (λ w. IsEvidenceAsked to_hear end_of_numbers w × (n < w.number)) (λ w. place w < place_of to_end n)
+      (λ w is. omega (arith, is.0.0, is.0.1)) hear2 h2))
       (all_weaker (IsEvidenceAsked to_end n) (λ w. place w < place_of to_end n) (λ w is. omega (arith, is.0, is.1)) end1 e1)))
 
   high4 : AllByRecursion (λ w. place_of to_end n < place w) end2
-  high4 = all_weaker (λ w. IsEvidenceAsked to_end end_of_numbers w × (n < w.number)) (λ w. place_of to_end n < place w) (λ w is. omega (arith, is.0.0, is.1)) end2 e2
+  high4 = all_weaker (λ w. IsEvidenceAsked to_end end_of_numbers w × (n < w.number)) (λ w. place_of to_end n < place w)
+      (λ w is. omega (arith, is.0.0, is.1)) end2 e2
 
   -- behind a place of a lower kind
   ends_high : (k : ℕ) → k < to_end → (o4 : Option WaitingRow) → IfSome o4 (λ w. place w ≡ place_of to_end n)
       → AllByRecursion (λ w. place_of k n < place w) (end1 ++ cons_option o4 end2)
-  ends_high k less o4 at = all-append (λ w. place_of k n < place w) end1 (cons_option o4 end2) (all_weaker (IsEvidenceAsked to_end n) (λ w. place_of k n < place w) (λ w is. omega (arith, is.0, less, small)) end1 e1)
-      (own o4 at (all_weaker (λ w. IsEvidenceAsked to_end end_of_numbers w × (n < w.number)) (λ w. place_of k n < place w) (λ w is. omega (arith, is.0.0, is.1, less, small)) end2 e2))
+  ends_high k less o4 at =
+      all-append (λ w. place_of k n < place w) end1 (cons_option o4 end2)
+      (all_weaker (IsEvidenceAsked to_end n) (λ w. place_of k n < place w) (λ w is. omega (arith, is.0, less, small)) end1 e1)
+      (own o4 at (all_weaker (λ w. IsEvidenceAsked to_end end_of_numbers w × (n < w.number)) (λ w. place_of k n < place w)
+      (λ w is. omega (arith, is.0.0, is.1, less, small)) end2 e2))
     where
       own : (o : Option WaitingRow) → IfSome o (λ w. place w ≡ place_of to_end n) → AllByRecursion (λ w. place_of k n < place w) end2
           → AllByRecursion (λ w. place_of k n < place w) (cons_option o end2)
@@ -161,16 +176,21 @@ module _ (n : ℕ) (small : n < end_of_numbers) (send1 send2 answer hear1 hear2 
 
   high3 : (o4 : Option WaitingRow) → IfSome o4 (λ w. place w ≡ place_of to_end n) → AllByRecursion (λ w. place_of to_hear n < place w) (behind3 o4)
   high3 o4 at = all-append (λ w. place_of to_hear n < place w) hear2 (end1 ++ cons_option o4 end2)
-      (all_weaker (λ w. IsEvidenceAsked to_hear end_of_numbers w × (n < w.number)) (λ w. place_of to_hear n < place w) (λ w is. omega (arith, is.0.0, is.1)) hear2 h2) (ends_high to_hear (omega arith) o4 at)
+      (all_weaker (λ w. IsEvidenceAsked to_hear end_of_numbers w × (n < w.number)) (λ w. place_of to_hear n < place w)
+      (λ w is. omega (arith, is.0.0, is.1)) hear2 h2) (ends_high to_hear (omega arith) o4 at)
 
   high1 : (o3 o4 : Option WaitingRow) → IfSome o3 (λ w. place w ≡ place_of to_hear n) → IfSome o4 (λ w. place w ≡ place_of to_end n)
       → AllByRecursion (λ w. place_of to_send n < place w) (behind1 o3 o4)
   high1 o3 o4 at3 at4 = all-append (λ w. place_of to_send n < place w) send2 (answer ++ ((hear1 ++ cons_option o3 hear2) ++ (end1 ++ cons_option o4 end2)))
-      (all_weaker (λ w. IsEvidenceAsked to_send end_of_numbers w × (n < w.number)) (λ w. place_of to_send n < place w) (λ w is. omega (arith, is.0.0, is.1)) send2 s2)
-      (all-append (λ w. place_of to_send n < place w) answer ((hear1 ++ cons_option o3 hear2) ++ (end1 ++ cons_option o4 end2)) (all_weaker (IsEvidenceAsked to_send_receipt end_of_numbers) (λ w. place_of to_send n < place w) (λ w is. omega (arith, is.0, small)) answer a)
+      (all_weaker (λ w. IsEvidenceAsked to_send end_of_numbers w × (n < w.number)) (λ w. place_of to_send n < place w)
+      (λ w is. omega (arith, is.0.0, is.1)) send2 s2)
+      (all-append (λ w. place_of to_send n < place w) answer ((hear1 ++ cons_option o3 hear2) ++ (end1 ++ cons_option o4 end2))
+      (all_weaker (IsEvidenceAsked to_send_receipt end_of_numbers) (λ w. place_of to_send n < place w) (λ w is. omega (arith, is.0, small)) answer a)
       (all-append (λ w. place_of to_send n < place w) (hear1 ++ cons_option o3 hear2) (end1 ++ cons_option o4 end2)
-      (all-append (λ w. place_of to_send n < place w) hear1 (cons_option o3 hear2) (all_weaker (IsEvidenceAsked to_hear n) (λ w. place_of to_send n < place w) (λ w is. omega (arith, is.0, small)) hear1 h1)
-      (own o3 at3 (all_weaker (λ w. IsEvidenceAsked to_hear end_of_numbers w × (n < w.number)) (λ w. place_of to_send n < place w) (λ w is. omega (arith, is.0.0, small)) hear2 h2)))
+      (all-append (λ w. place_of to_send n < place w) hear1 (cons_option o3 hear2)
+      (all_weaker (IsEvidenceAsked to_hear n) (λ w. place_of to_send n < place w) (λ w is. omega (arith, is.0, small)) hear1 h1)
+      (own o3 at3 (all_weaker (λ w. IsEvidenceAsked to_hear end_of_numbers w × (n < w.number)) (λ w. place_of to_send n < place w)
+      (λ w is. omega (arith, is.0.0, small)) hear2 h2)))
       (ends_high to_send (omega arith) o4 at4)))
     where
       own : (o : Option WaitingRow) → IfSome o (λ w. place w ≡ place_of to_hear n) → AllByRecursion (λ w. place_of to_send n < place w) hear2
@@ -184,8 +204,11 @@ module _ (n : ℕ) (small : n < end_of_numbers) (send1 send2 answer hear1 hear2 
       → IfSome o4 (λ w. place w ≡ place_of to_end n)
       → without_document n (joined o1 o3 o4) ≡ joined None None None
   all_taken o1 o3 o4 at1 at3 at4 =
-      ap (λ l. not_at (place_of to_end n) (not_at (place_of to_hear n) l)) (ap (not_at (place_of to_send n)) (cut1 o1 o3 o4) ∙ taken (place_of to_send n) o1 at1 send1 (behind1 o3 o4) low1 (high1 o3 o4 at3 at4) ∙ sym (cut1 None o3 o4))
-      ∙ ap (not_at (place_of to_end n)) (ap (not_at (place_of to_hear n)) (cut3 o3 o4) ∙ taken (place_of to_hear n) o3 at3 before3 (behind3 o4) low3 (high3 o4 at4) ∙ sym (cut3 None o4))
+      ap (λ l. not_at (place_of to_end n) (not_at (place_of to_hear n) l))
+      (ap (not_at (place_of to_send n)) (cut1 o1 o3 o4) ∙ taken (place_of to_send n) o1 at1 send1 (behind1 o3 o4) low1 (high1 o3 o4 at3 at4)
+      ∙ sym (cut1 None o3 o4))
+      ∙ ap (not_at (place_of to_end n))
+      (ap (not_at (place_of to_hear n)) (cut3 o3 o4) ∙ taken (place_of to_hear n) o3 at3 before3 (behind3 o4) low3 (high3 o4 at4) ∙ sym (cut3 None o4))
       ∙ ap (not_at (place_of to_end n)) (cut4 o4) ∙ taken (place_of to_end n) o4 at4 before4 end2 low4 high4 ∙ sym (cut4 None)
 
   -- ---- put in
@@ -242,25 +265,30 @@ still P p (w ∷ ws) all = go (p w) (still P p ws all.1)
 
 -- the documents before those of number n, and behind them
 module _ (n : ℕ) (small : n < end_of_numbers) (front back : List OutEntry) (inbox : List InEntry)
-    (low : AllByRecursion (λ (d : OutEntry). d.number < n) front) (high : AllByRecursion (λ (d : OutEntry). n < d.number) back) (outs : AllByRecursion (λ (d : OutEntry). d.number < end_of_numbers) back)
+    (low : AllByRecursion (λ (d : OutEntry). d.number < n) front) (high : AllByRecursion (λ (d : OutEntry). n < d.number) back)
+    (outs : AllByRecursion (λ (d : OutEntry). d.number < end_of_numbers) back)
     (ins : AllByRecursion (λ k. k < end_of_numbers) (map (λ (e : InEntry). e.number) inbox)) where
   abbrev before : (kind : ℕ) → AllByRecursion (IsEvidenceAsked kind n) (documents_waiting kind front)
   before kind = documents_of kind n front (all-map (λ k. k < n) (λ (d : OutEntry). d.number) front low)
 
   abbrev behind : (kind : ℕ) → AllByRecursion (λ w. IsEvidenceAsked kind end_of_numbers w × (n < w.number)) (documents_waiting kind back)
-  behind kind = with_both (IsEvidenceAsked kind end_of_numbers) (λ w. n < w.number) (documents_waiting kind back) (documents_of kind end_of_numbers back (all-map (λ k. k < end_of_numbers) (λ (d : OutEntry). d.number) back outs))
+  behind kind = with_both (IsEvidenceAsked kind end_of_numbers) (λ w. n < w.number) (documents_waiting kind back)
+      (documents_of kind end_of_numbers back (all-map (λ k. k < end_of_numbers) (λ (d : OutEntry). d.number) back outs))
       (still (λ w. n < w.number) (λ w. w.kind == kind) (waiting_out back) (outs_above n back high))
 
   abbrev waiting_of : List OutEntry → List WaitingRow
   waiting_of ds = documents_waiting to_send ds ++ (waiting_in inbox ++ (documents_waiting to_hear ds ++ documents_waiting to_end ds))
 
   with_one : (x : OutEntry) → waiting_of (front ++ x ∷ back)
-      ≡ joined n small (documents_waiting to_send front) (documents_waiting to_send back) (waiting_in inbox) (documents_waiting to_hear front) (documents_waiting to_hear back) (documents_waiting to_end front) (documents_waiting to_end back)
-      (before to_send) (behind to_send) (ins_small end_of_numbers inbox ins) (before to_hear) (behind to_hear) (before to_end) (behind to_end) (of_kind to_send (out_waiting x)) (of_kind to_hear (out_waiting x)) (of_kind to_end (out_waiting x))
+      ≡ joined n small (documents_waiting to_send front) (documents_waiting to_send back) (waiting_in inbox) (documents_waiting to_hear front)
+      (documents_waiting to_hear back) (documents_waiting to_end front) (documents_waiting to_end back)
+      (before to_send) (behind to_send) (ins_small end_of_numbers inbox ins) (before to_hear) (behind to_hear) (before to_end) (behind to_end)
+      (of_kind to_send (out_waiting x)) (of_kind to_hear (out_waiting x)) (of_kind to_end (out_waiting x))
   with_one x = ap₂ ◌++◌ (among to_send front x back) (ap (λ l. waiting_in inbox ++ l) (ap₂ ◌++◌ (among to_hear front x back) (among to_end front x back)))
 
   without : waiting_of (front ++ back)
-      ≡ joined n small (documents_waiting to_send front) (documents_waiting to_send back) (waiting_in inbox) (documents_waiting to_hear front) (documents_waiting to_hear back) (documents_waiting to_end front) (documents_waiting to_end back)
+      ≡ joined n small (documents_waiting to_send front) (documents_waiting to_send back) (waiting_in inbox) (documents_waiting to_hear front)
+      (documents_waiting to_hear back) (documents_waiting to_end front) (documents_waiting to_end back)
       (before to_send) (behind to_send) (ins_small end_of_numbers inbox ins) (before to_hear) (behind to_hear) (before to_end) (behind to_end) None None None
   without = ap₂ ◌++◌ (both to_send front back) (ap (λ l. waiting_in inbox ++ l) (ap₂ ◌++◌ (both to_hear front back) (both to_end front back)))
 
@@ -269,16 +297,20 @@ module _ (n : ℕ) (small : n < end_of_numbers) (front back : List OutEntry) (in
       → noted_rows (out_waiting x) (map waiting_row (waiting_of (front ++ back))) ≡ map waiting_row (waiting_of (front ++ x ∷ back))
   put_among x is =
       ap (λ l. noted_rows (out_waiting x) (map waiting_row l)) without
-      ∙ subst (λ k. Notes n small _ _ _ _ _ _ _ (before to_send) (behind to_send) (ins_small end_of_numbers inbox ins) (before to_hear) (behind to_hear) (before to_end) (behind to_end) (option_map (wait k x.due) (out_kind x.detail x.attempt))) (sym is)
-      (all_noted n small _ _ _ _ _ _ _ (before to_send) (behind to_send) (ins_small end_of_numbers inbox ins) (before to_hear) (behind to_hear) (before to_end) (behind to_end) x.due (out_kind x.detail x.attempt) (kinds x.detail x.attempt))
+      ∙ subst (λ k. Notes n small _ _ _ _ _ _ _ (before to_send) (behind to_send) (ins_small end_of_numbers inbox ins) (before to_hear)
+      (behind to_hear) (before to_end) (behind to_end) (option_map (wait k x.due) (out_kind x.detail x.attempt))) (sym is)
+      (all_noted n small _ _ _ _ _ _ _ (before to_send) (behind to_send) (ins_small end_of_numbers inbox ins) (before to_hear) (behind to_hear)
+      (before to_end) (behind to_end) x.due (out_kind x.detail x.attempt) (kinds x.detail x.attempt))
       ∙ ap (map waiting_row) (sym (with_one x))
 
   -- and taken out
   pub take_among : (x : OutEntry) → x.number ≡ n → without_document n (waiting_of (front ++ x ∷ back)) ≡ waiting_of (front ++ back)
   take_among x is =
       ap (without_document n) (with_one x)
-      ∙ all_taken n small _ _ _ _ _ _ _ (before to_send) (behind to_send) (ins_small end_of_numbers inbox ins) (before to_hear) (behind to_hear) (before to_end) (behind to_end) _ _ _ (own to_send) (own to_hear) (own to_end)
+      ∙ all_taken n small _ _ _ _ _ _ _ (before to_send) (behind to_send) (ins_small end_of_numbers inbox ins) (before to_hear) (behind to_hear)
+      (before to_end) (behind to_end) _ _ _ (own to_send) (own to_hear) (own to_end)
       ∙ sym without
     where
       own : (kind : ℕ) → IfSome (of_kind kind (out_waiting x)) (λ w. place w ≡ place_of kind n)
-      own kind = subst (λ k. IfSome (of_kind kind (out_waiting x)) (λ w. place w ≡ place_of kind k)) is (at_place x.number x.due kind (out_kind x.detail x.attempt))
+      own kind = subst (λ k. IfSome (of_kind kind (out_waiting x)) (λ w. place w ≡ place_of kind k)) is
+          (at_place x.number x.due kind (out_kind x.detail x.attempt))

@@ -34,9 +34,12 @@ use Rattle.as2_store.proofs.Texts.{number_terms, waiting_take_is, waiting_take_p
 pub takes_waiting : {way : Way} (p count : ℕ) (old new : Connected) (ws : List WaitingRow) → HoldsWaiting way old.now ws
     → Executes waiting_take_text (one_param p) old new (Ok count) → ChangesTable old new (store_schema way) waiting_tree (map waiting_row (not_at p ws))
 takes_waiting {way} p count old new ws it h =
-    let done = deletes waiting_take_text (one_param p) old new (store_schema way) it.schema 6 waiting_table refl number_terms (λ (w : WaitingRow). pos (place w)) waiting_row (λ _. refl) ws it.rows it.in_order (quiet way waiting_tree) (waiting_take_is way) (waiting_take_plain way) count h in
+    let done = deletes waiting_take_text (one_param p) old new (store_schema way) it.schema 6 waiting_table refl number_terms
+    (λ (w : WaitingRow). pos (place w)) waiting_row (λ _. refl) ws it.rows it.in_order (quiet way waiting_tree) (waiting_take_is way)
+    (waiting_take_plain way) count h in
     subst (λ l. ChangesTable old new (store_schema way) waiting_tree (map waiting_row l))
-    (filter_agree (λ (w : WaitingRow). not (passes number_terms (one_param p) (waiting_row w))) (λ (w : WaitingRow). not (place w == p)) (λ w. ap not (ap (λ b. b && true) (numbers_equal (place w) p) ∙ and_true _)) ws) done.0
+    (filter_agree (λ (w : WaitingRow). not (passes number_terms (one_param p) (waiting_row w))) (λ (w : WaitingRow). not (place w == p))
+    (λ w. ap not (ap (λ b. b && true) (numbers_equal (place w) p) ∙ and_true _)) ws) done.0
 
 -- what waits is in order once some of it is taken out
 pub still_held : {way : Way} (old new : Connected) (p : ℕ) (ws : List WaitingRow) → HoldsWaiting way old.now ws
@@ -54,7 +57,8 @@ taken_then way a b c d first second third one two three = record {
   sound = three.sound;
   schema_is = three.schema_is;
   rows_are = three.rows_are;
-  others = others_then a.now.trees b.now.trees d.now.trees waiting_tree (store_schema way).tables one.others (others_then b.now.trees c.now.trees d.now.trees waiting_tree (store_schema way).tables two.others three.others);
+  others = others_then a.now.trees b.now.trees d.now.trees waiting_tree (store_schema way).tables one.others
+      (others_then b.now.trees c.now.trees d.now.trees waiting_tree (store_schema way).tables two.others three.others);
 }
 
 -- some of it is taken out, and what is noted then is put in
@@ -64,7 +68,8 @@ noted_then way a b c rows None one two = record {
   sound = subst IsDatabase (sym two) one.sound;
   schema_is = ap (λ (d : Database). d.schema) two ∙ one.schema_is;
   rows_are = ap (λ (d : Database). d.trees waiting_tree) two ∙ one.rows_are;
-  others = subst (λ (d : Database). AllByRecursion (λ t. t.tree ≢ waiting_tree → d.trees t.tree ≡ a.now.trees t.tree) (store_schema way).tables) (sym two) one.others;
+  others = subst (λ (d : Database). AllByRecursion (λ t. t.tree ≢ waiting_tree → d.trees t.tree ≡ a.now.trees t.tree) (store_schema way).tables)
+      (sym two) one.others;
 }
 noted_then way a b c rows (Some w) one two = record {
   sound = two.sound;
@@ -99,8 +104,11 @@ number_kept n due (Some kind) = refl
 
 by_place : (kind next : ℕ) (ws : List WaitingRow) → AllByRecursion (IsEvidenceAsked kind next) ws → IsAscending IsUnder ws → IsAscending IsBefore ws
 by_place kind next [] of up = tt
-by_place kind next (w ∷ ws) of up =
-    (all_both (IsEvidenceAsked kind next) (λ v. w.number < v.number) (λ v. place w < place v) (λ v is less. omega (arith, of.0.0, is.0, less)) ws of.1 up.0, by_place kind next ws of.1 up.1)
+by_place kind next (w ∷ ws) of up = (
+  all_both (IsEvidenceAsked kind next) (λ v. w.number < v.number) (λ v. place w < place v)
+      (λ v is less. omega (arith, of.0.0, is.0, less)) ws of.1 up.0,
+  by_place kind next ws of.1 up.1,
+)
 
 abbrev IsPast : ℕ → WaitingRow → Type 0
 IsPast kind w = kind < w.kind
@@ -113,14 +121,18 @@ then : (kind : ℕ) (xs ys : List WaitingRow) → AllByRecursion (IsEvidenceAske
     → IsAscending IsBefore ys → IsAscending IsBefore (xs ++ ys)
 then kind xs ys of up behind later =
     ascending-append IsBefore xs ys (by_place kind end_of_numbers xs of up) later
-    (all_weaker (IsEvidenceAsked kind end_of_numbers) (λ x. AllByRecursion (IsBefore x) ys) (λ x is. all_weaker (IsPast kind) (IsBefore x) (λ y far. omega (arith, is.0, is.1, far)) ys behind) xs of)
+    (all_weaker (IsEvidenceAsked kind end_of_numbers) (λ x. AllByRecursion (IsBefore x) ys)
+    (λ x is. all_weaker (IsPast kind) (IsBefore x) (λ y far. omega (arith, is.0, is.1, far)) ys behind) xs of)
 
 pub documents_rise : (kind : ℕ) (ds : List OutEntry) → IsAscending (λ (x y : OutEntry). x.number < y.number) ds
     → IsAscending IsUnder (documents_waiting kind ds)
-documents_rise kind ds up = ascending-filter IsUnder (λ w. w.kind == kind) (filter_map out_waiting ds) (given_rise out_waiting (λ (d : OutEntry). d.number) (λ (w : WaitingRow). w.number) (λ d. number_kept d.number d.due (out_kind d.detail d.attempt)) ds up)
+documents_rise kind ds up =
+    ascending-filter IsUnder (λ w. w.kind == kind) (filter_map out_waiting ds)
+    (given_rise out_waiting (λ (d : OutEntry). d.number) (λ (w : WaitingRow). w.number) (λ d. number_kept d.number d.due (out_kind d.detail d.attempt)) ds up)
 
 pub receipts_rise : (es : List InEntry) → IsAscending (λ (x y : InEntry). x.number < y.number) es → IsAscending IsUnder (waiting_in es)
-receipts_rise es up = given_rise in_waiting (λ (e : InEntry). e.number) (λ (w : WaitingRow). w.number) (λ e. number_kept e.number e.due (in_kind e.receipt_stage e.attempt)) es up
+receipts_rise es up = given_rise in_waiting (λ (e : InEntry). e.number) (λ (w : WaitingRow). w.number)
+    (λ e. number_kept e.number e.due (in_kind e.receipt_stage e.attempt)) es up
 
 pub places_rise : (send answer hear end : List WaitingRow) → AllByRecursion (IsEvidenceAsked to_send end_of_numbers) send
     → AllByRecursion (IsEvidenceAsked to_send_receipt end_of_numbers) answer → AllByRecursion (IsEvidenceAsked to_hear end_of_numbers) hear
@@ -132,7 +144,8 @@ places_rise send answer hear end s a h e us ua uh ue =
     let last = all-append (IsPast to_send_receipt) hear end hears ends in
     let lasts = all_weaker (IsPast to_send_receipt) (IsPast to_send) (λ w far. omega (arith, far)) (hear ++ end) last in
     ordered_rise waiting_row place (λ _. refl) (send ++ (answer ++ (hear ++ end)))
-    (then to_send send (answer ++ (hear ++ end)) s us (all-append (IsPast to_send) answer (hear ++ end) (past to_send to_send_receipt end_of_numbers (omega arith) answer a) lasts)
+    (then to_send send (answer ++ (hear ++ end)) s us
+    (all-append (IsPast to_send) answer (hear ++ end) (past to_send to_send_receipt end_of_numbers (omega arith) answer a) lasts)
     (then to_send_receipt answer (hear ++ end) a ua last
     (then to_hear hear end h uh (past to_hear to_end end_of_numbers (omega arith) end e) (by_place to_end end_of_numbers end e ue))))
 
@@ -163,21 +176,27 @@ taken p None at front back low high =
     filter-append (λ w. not (place w == p)) front back ∙ ap₂ ◌++◌ (filter_all _ front (kept_low p front low)) (filter_all _ back (kept_high p back high))
 taken p (Some w) at front back low high =
     filter-append (λ w. not (place w == p)) front (w ∷ back)
-    ∙ ap₂ ◌++◌ (filter_all _ front (kept_low p front low)) (ap (λ b. cond b (w ∷ not_at p back) (not_at p back)) (dropped p (place w) at) ∙ filter_all _ back (kept_high p back high))
+    ∙ ap₂ ◌++◌ (filter_all _ front (kept_low p front low))
+    (ap (λ b. cond b (w ∷ not_at p back) (not_at p back)) (dropped p (place w) at) ∙ filter_all _ back (kept_high p back high))
 
 pub renewed : (n : ℕ) (new : Option WaitingRow) → IfSome new (IsLast n) → n < end_of_numbers → (o : Option WaitingRow) → IfSome o (IsLast n)
     → (send front back hear end : List WaitingRow)
     → AllByRecursion (IsEvidenceAsked to_send end_of_numbers) send → AllByRecursion (IsEvidenceAsked to_send_receipt n) front
     → AllByRecursion (λ v. (v.kind ≡ to_send_receipt) × (n < v.number)) back
     → AllByRecursion (IsEvidenceAsked to_hear end_of_numbers) hear → AllByRecursion (IsEvidenceAsked to_end end_of_numbers) end
-    → noted_rows new (map waiting_row (not_at (place_of to_send_receipt n) (send ++ ((front ++ cons_option o back) ++ (hear ++ end))))) ≡ map waiting_row (send ++ ((front ++ cons_option new back) ++ (hear ++ end)))
+    → noted_rows new (map waiting_row
+    (not_at (place_of to_send_receipt n) (send ++ ((front ++ cons_option o back) ++ (hear ++ end))))) ≡ map waiting_row
+    (send ++ ((front ++ cons_option new back) ++ (hear ++ end)))
 renewed n new is small o was send front back hear end s f b h e =
     let p = place_of to_send_receipt n in
-    let low = all-append (λ q. place q < p) send front (all_weaker (IsEvidenceAsked to_send end_of_numbers) (λ q. place q < p) (λ q of. omega (arith, of.0, of.1)) send s)
+    let low = all-append (λ q. place q < p) send front
+    (all_weaker (IsEvidenceAsked to_send end_of_numbers) (λ q. place q < p) (λ q of. omega (arith, of.0, of.1)) send s)
     (all_weaker (IsEvidenceAsked to_send_receipt n) (λ q. place q < p) (λ q of. omega (arith, of.0, of.1)) front f) in
-    let ends = all-append (λ q. p < place q) hear end (all_weaker (IsEvidenceAsked to_hear end_of_numbers) (λ q. p < place q) (λ q of. omega (arith, of.0, of.1, small)) hear h)
+    let ends = all-append (λ q. p < place q) hear end
+    (all_weaker (IsEvidenceAsked to_hear end_of_numbers) (λ q. p < place q) (λ q of. omega (arith, of.0, of.1, small)) hear h)
     (all_weaker (IsEvidenceAsked to_end end_of_numbers) (λ q. p < place q) (λ q of. omega (arith, of.0, of.1, small)) end e) in
-    let high = all-append (λ q. p < place q) back (hear ++ end) (all_weaker (λ v. (v.kind ≡ to_send_receipt) × (n < v.number)) (λ q. p < place q) (λ q of. omega (arith, of.0, of.1)) back b) ends in
+    let high = all-append (λ q. p < place q) back (hear ++ end)
+    (all_weaker (λ v. (v.kind ≡ to_send_receipt) × (n < v.number)) (λ q. p < place q) (λ q of. omega (arith, of.0, of.1)) back b) ends in
     ap (λ l. noted_rows new (map waiting_row (not_at p l))) (spread o)
     ∙ ap (λ l. noted_rows new (map waiting_row l)) (taken p o (stood o was) (send ++ front) (back ++ (hear ++ end)) low high)
     ∙ put new is low high
@@ -196,7 +215,10 @@ renewed n new is small o was send front back hear end s f b h e =
 
     put : (new : Option WaitingRow) → IfSome new (IsLast n) → AllByRecursion (λ q. place q < place_of to_send_receipt n) (send ++ front)
         → AllByRecursion (λ q. place_of to_send_receipt n < place q) (back ++ (hear ++ end))
-        → noted_rows new (map waiting_row ((send ++ front) ++ (back ++ (hear ++ end)))) ≡ map waiting_row ((send ++ front) ++ cons_option new (back ++ (hear ++ end)))
+        → noted_rows new (map waiting_row ((send ++ front) ++ (back ++ (hear ++ end)))) ≡ map waiting_row
+        ((send ++ front) ++ cons_option new (back ++ (hear ++ end)))
     put None is low high = refl
     put (Some w) is low high =
-        puts_between waiting_row place (λ _. refl) w (send ++ front) (back ++ (hear ++ end)) (subst (λ k. AllByRecursion (λ q. place q < k) (send ++ front)) (sym (at_place w is)) low) (subst (λ k. AllByRecursion (λ q. k < place q) (back ++ (hear ++ end))) (sym (at_place w is)) high)
+        puts_between waiting_row place (λ _. refl) w (send ++ front) (back ++ (hear ++ end))
+        (subst (λ k. AllByRecursion (λ q. place q < k) (send ++ front)) (sym (at_place w is)) low)
+        (subst (λ k. AllByRecursion (λ q. k < place q) (back ++ (hear ++ end))) (sym (at_place w is)) high)

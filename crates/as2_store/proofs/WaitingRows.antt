@@ -48,7 +48,8 @@ one_waiting w = record { source = waiting_row w; made = refl; cast_is = simp (ca
 pub puts_waiting : (way : Way) (old new : Connected) (w : WaitingRow) (count : ℕ) → old.now.schema ≡ store_schema way
     → Executes waiting_put_text (waiting_params w) old new (Ok count) → NotesWaiting way old new (Some w)
 puts_waiting way old new w count has h =
-    inserts_given waiting_put_text (waiting_params w) old new (store_schema way) has 6 waiting_table refl refl waiting_put_terms 5 (waiting_row w) (one_waiting w) refl (waiting_put_is way) (waiting_put_plain way) count h
+    inserts_given waiting_put_text (waiting_params w) old new (store_schema way) has 6 waiting_table refl refl waiting_put_terms 5 (waiting_row w)
+    (one_waiting w) refl (waiting_put_is way) (waiting_put_plain way) count h
 
 -- ---- kinds and numbers of what waits
 
@@ -67,7 +68,8 @@ outs_small next (d ∷ ds) all = small_out next d.number d.due (out_kind d.detai
 
 small_in : (next n : ℕ) (due : Option ℕ) (m : ReceiptStage) (a : Attempt) (rest : List WaitingRow) → n < next
     → AllByRecursion (IsEvidenceAsked to_send_receipt next) rest
-    → AllByRecursion (IsEvidenceAsked to_send_receipt next) (cons_option (option_map (λ kind. record { kind = kind; number = n; due = due }) (in_kind m a)) rest)
+    → AllByRecursion (IsEvidenceAsked to_send_receipt next)
+    (cons_option (option_map (λ kind. record { kind = kind; number = n; due = due }) (in_kind m a)) rest)
 small_in next n due Pending Idle rest small all = ((refl, small), all)
 small_in next n due Pending Running rest small all = ((refl, small), all)
 small_in next n due Pending Last rest small all = all
@@ -114,9 +116,11 @@ noted_in : (n : ℕ) (o : Option WaitingRow) → IfSome o (IsLast n) → n < end
     → noted_rows o (map waiting_row (send ++ (answer ++ (hear ++ end)))) ≡ map waiting_row (send ++ ((answer ++ cons_option o []) ++ (hear ++ end)))
 noted_in n None last small send answer hear end s a h e = ap (λ l. map waiting_row (send ++ (l ++ (hear ++ end)))) (sym (append-nil answer))
 noted_in n (Some w) last small send answer hear end s a h e =
-    let low = all-append (λ q. place q < place w) send answer (all_weaker (IsEvidenceAsked to_send end_of_numbers) (λ q. place q < place w) (λ q is. omega (arith, is.0, is.1, last.0, last.1)) send s)
+    let low = all-append (λ q. place q < place w) send answer
+    (all_weaker (IsEvidenceAsked to_send end_of_numbers) (λ q. place q < place w) (λ q is. omega (arith, is.0, is.1, last.0, last.1)) send s)
     (all_weaker (IsEvidenceAsked to_send_receipt n) (λ q. place q < place w) (λ q is. omega (arith, is.0, is.1, last.0, last.1)) answer a) in
-    let high = all-append (λ q. place w < place q) hear end (all_weaker (IsEvidenceAsked to_hear end_of_numbers) (λ q. place w < place q) (λ q is. omega (arith, is.0, is.1, last.0, last.1)) hear h)
+    let high = all-append (λ q. place w < place q) hear end
+    (all_weaker (IsEvidenceAsked to_hear end_of_numbers) (λ q. place w < place q) (λ q is. omega (arith, is.0, is.1, last.0, last.1)) hear h)
     (all_weaker (IsEvidenceAsked to_end end_of_numbers) (λ q. place w < place q) (λ q is. omega (arith, is.0, is.1, last.0, last.1)) end e) in
     ap (λ l. put_row (waiting_row w) (map waiting_row l)) (sym (append_assoc send answer (hear ++ end)))
     ∙ puts_between waiting_row place (λ _. refl) w (send ++ answer) (hear ++ end) low high
@@ -127,7 +131,11 @@ pub noted : (s : State) (e : InEntry) → AllByRecursion (λ n. n < s.next_in) (
     → e.number ≡ s.next_in → e.number < end_of_numbers
     → noted_rows (in_waiting e) (map waiting_row (all_waiting s)) ≡ map waiting_row (all_waiting (with_received s e))
 noted s e ins outs is small =
-    noted_in e.number (in_waiting e) (kind_is_last e.receipt_stage e.attempt e.number e.due) small (documents_waiting to_send s.outbox) (waiting_in s.inbox) (documents_waiting to_hear s.outbox) (documents_waiting to_end s.outbox)
-    (documents_of to_send end_of_numbers s.outbox outs) (subst (λ n. AllByRecursion (IsEvidenceAsked to_send_receipt n) (waiting_in s.inbox)) (sym is) (ins_small s.next_in s.inbox ins))
+    noted_in e.number (in_waiting e) (kind_is_last e.receipt_stage e.attempt e.number e.due) small (documents_waiting to_send s.outbox)
+    (waiting_in s.inbox) (documents_waiting to_hear s.outbox) (documents_waiting to_end s.outbox)
+    (documents_of to_send end_of_numbers s.outbox outs)
+    (subst (λ n. AllByRecursion (IsEvidenceAsked to_send_receipt n) (waiting_in s.inbox)) (sym is) (ins_small s.next_in s.inbox ins))
     (documents_of to_hear end_of_numbers s.outbox outs) (documents_of to_end end_of_numbers s.outbox outs)
-    ∙ ap (λ l. map waiting_row (documents_waiting to_send s.outbox ++ (l ++ (documents_waiting to_hear s.outbox ++ documents_waiting to_end s.outbox)))) (sym (filter_map-append in_waiting s.inbox (e ∷ [])))
+    ∙ ap (λ l. map waiting_row
+    (documents_waiting to_send s.outbox ++ (l ++ (documents_waiting to_hear s.outbox ++ documents_waiting to_end s.outbox))))
+    (sym (filter_map-append in_waiting s.inbox (e ∷ [])))

@@ -1,5 +1,5 @@
 -- What the tables stand for: a state of the exchange machine.
-use Rattle.std.specs.Prelude.{◌≡◌, ℕ, ◌+◌, ◌*◌, ◌==◌, nat_le, ◌||◌, List, [], ◌∷◌, ◌++◌, map, codes, bytes_eq, Option, Some, None, option_map, IsTrue, Bool, false, if◌then◌else◌}
+use Rattle.std.specs.Prelude.{◌≡◌, ℕ, ◌+◌, ◌*◌, ◌==◌, nat_le, ◌&&◌, ◌||◌, List, [], ◌∷◌, ◌++◌, map, codes, bytes_eq, Option, Some, None, option_map, IsTrue, Bool, true, false, if◌then◌else◌}
 use Rattle.std.specs.List.{AllByRecursion, filter, filter_map, flat_map}
 use Rattle.sqlite.specs.declared.types.Value.TheVariants.{Null, Text}
 use Rattle.sqlite.specs.Order.{Row}
@@ -17,7 +17,13 @@ use Rattle.sqlite.specs.declared.error.Error.{Error}
 use Rattle.sqlite.specs.declared.error.Error.TheVariants.{SqliteFailure}
 use Rattle.sqlite.specs.declared.error.ErrorCode.TheVariants as code
 use Rattle.as2_exchange.specs.declared.fault.StoreFault.{StoreFault}
-use Rattle.as2_exchange.specs.declared.fault.StoreFault.TheVariants.{Memory, Disk, Refused, NotAStore, OtherVersion}
+use Rattle.as2_exchange.specs.declared.fault.StoreFault.TheVariants.{Memory, Disk, Refused, Damaged, NotAStore, OtherVersion}
+use Rattle.as2_exchange.specs.declared.place.RowPlace.{RowPlace}
+use Rattle.as2_exchange.specs.declared.place.Table.{Table as ATable}
+use Rattle.as2_exchange.specs.declared.place.Table.TheVariants as table
+use Rattle.as2_records.specs.Standing.{may_come}
+use Rattle.as2_rows.specs.declared.fault.RowFault.{RowFault}
+use Rattle.as2_rows.specs.declared.fault.RowFault.TheVariants as row
 use Rattle.as2_rows.specs.Rows.{whole, in_row, out_row, evidence_row}
 use Rattle.as2_rows.specs.Contents.{Piece, pieces, piece_shown}
 use Rattle.as2_rows.specs.Waiting.{WaitingRow, waiting_in, waiting_out, waiting_shown, to_send, to_hear, to_end}
@@ -179,6 +185,49 @@ fault_by (SqliteFailure code.DatabaseCorrupt) = Disk
 fault_by (SqliteFailure code.DiskFull) = Disk
 fault_by (SqliteFailure code.Closed) = Disk
 fault_by other = Refused
+
+-- the fault that it is that the row of this place can't be read
+abbrev pub row_fault : RowPlace → RowFault → StoreFault
+row_fault place row.Memory = Memory
+row_fault place row.NotAnEntry = Damaged place
+
+-- the same of one of its columns
+abbrev pub column_fault : RowPlace → Error → StoreFault
+column_fault place (SqliteFailure kind) = fault_by (SqliteFailure kind)
+column_fault place other = Damaged place
+
+-- a fault that may come from any call; where it is of a row that is damaged, of one of these
+abbrev pub comes_of : (RowPlace → Bool) → StoreFault → Bool
+comes_of is_there (Damaged place) = is_there place
+comes_of is_there fault = may_come fault
+
+abbrev pub same_table : ATable → ATable → Bool
+same_table table.Meta table.Meta = true
+same_table table.Inbox table.Inbox = true
+same_table table.InboxPiece table.InboxPiece = true
+same_table table.Outbox table.Outbox = true
+same_table table.OutboxPiece table.OutboxPiece = true
+same_table table.Evidence table.Evidence = true
+same_table table.Waiting table.Waiting = true
+same_table table.Origin table.Origin = true
+same_table table.Resent table.Resent = true
+same_table a b = false
+
+-- a row of this table
+abbrev pub is_row_of : ATable → RowPlace → Bool
+is_row_of t place = same_table t place.table
+
+-- one of the entry of this number
+abbrev pub is_row_at : ATable → ℕ → RowPlace → Bool
+is_row_at t number place = same_table t place.table && place.number == number
+
+-- a row that an entry of the inbox is read of
+abbrev pub is_in_inbox : RowPlace → Bool
+is_in_inbox place = is_row_of table.Inbox place || is_row_of table.InboxPiece place
+
+-- a row that a document of the outbox is read of
+abbrev pub is_in_outbox : RowPlace → Bool
+is_in_outbox place = is_row_of table.Outbox place || (is_row_of table.OutboxPiece place || is_row_of table.Evidence place)
 
 -- what kind and version say
 abbrev pub adoption_fault : List ℕ → ℕ → Option StoreFault

@@ -11,12 +11,13 @@ ghost use Rattle.as2_records.specs.Finding.{AreNext};
 ghost use Rattle.as2_records.specs.Standing.{may_come};
 ghost use Rattle.as2_rows.specs.Rows.{whole};
 ghost use Rattle.as2_store.specs.Tables.{Way, Fresh, current_number, store_schema, meta_tree};
-ghost use Rattle.as2_store.specs.Stands.{Rests, MetaSays, HasNoRow, HasCounters, meta_row, meta_shown};
+ghost use Rattle.as2_exchange.specs.declared.place.Table.TheVariants as table;
+ghost use Rattle.as2_store.specs.Stands.{Rests, MetaSays, HasNoRow, HasCounters, comes_of, is_row_of, meta_row, meta_shown};
 
-use crate::fault::fault_of;
+use crate::fault::{fault_of, unread_column};
 use crate::numbers::whole;
 use crate::reading::query_all;
-use as2_exchange::StoreFault;
+use as2_exchange::{RowPlace, StoreFault, Table};
 use as2_records::NextNumbers;
 use sqlite::{Alter, Connection, Error, Row, Transaction, params};
 
@@ -131,7 +132,12 @@ pub fn next_numbers<S: Alter>(conn: &mut Connection<S>) -> Result<NextNumbers, S
     ensures autocommit { conn.new.in_transaction ≡ false }
     ensures numbers { ReadsTables (λ s next. AreNext next s) (state S.Store conn.old) (state S.Store conn.new) result }
     ensures fault { IfErr result (λ f. may_come f ≡ true) }
+    ensures row { IfErr result (λ f. comes_of (is_row_of table.Meta) f ≡ true) }
 {
     let rows = meta_rows(conn).map_err(fault_of)?;
-    next_of(&rows).map_err(fault_of)
+    let place = RowPlace {
+        table: Table::Meta,
+        number: 0,
+    };
+    next_of(&rows).map_err(|error| unread_column(error, place))
 }

@@ -11,11 +11,13 @@ ghost use Rattle.as2_exchange.specs.declared.inbox.ReceiptStage.{ReceiptStage};
 ghost use Rattle.as2_store.specs.Calls.{ReadsTables};
 ghost use Rattle.as2_store.specs.Counting.{detail_row, details_of, is_awaiting, is_unsent, receipt_stage_row, receipt_stages_of};
 ghost use Rattle.as2_records.specs.Standing.{may_come};
+ghost use Rattle.as2_exchange.specs.declared.place.Table.TheVariants as table;
+ghost use Rattle.as2_store.specs.Stands.{comes_of, is_row_of};
 ghost use Rattle.as2_records.specs.Counting.{counts_of};
 
-use crate::fault::fault_of;
+use crate::fault::{fault_of, unread_column};
 use crate::reading::query_all;
-use as2_exchange::{ReceiptStage, StoreFault};
+use as2_exchange::{ReceiptStage, RowPlace, StoreFault, Table};
 use as2_mdn::{Detail, DetailClass};
 use as2_records::Counts;
 use as2_rows::{detail_of_code, receipt_stage_of_code};
@@ -42,29 +44,40 @@ fn receipt_stage_rows<S: Alter>(conn: &mut Connection<S>) -> Result<Vec<Row>, Er
     query_all(conn, "SELECT mdn FROM inbox2 ORDER BY number", &[])
 }
 
-/// The detail that a row shows.
+/// The detail that a row shows, which shows nothing else.
 fn detail_of(row: &Row) -> Result<Detail, StoreFault>
     ensures shown { IfOk result (λ detail. (d : DetailOf) → row.now ≡ detail_row d → detail ≡ d) }
     ensures fault { IfErr result (λ f. may_come f ≡ true) }
+    ensures row { IfErr result (λ f. comes_of (is_row_of table.Outbox) f ≡ true) }
 {
-    let code: i64 = row.get(0).map_err(fault_of)?;
-    detail_of_code(code).ok_or(StoreFault::Refused)
+    let place = RowPlace {
+        table: Table::Outbox,
+        number: 0,
+    };
+    let code: i64 = row.get(0).map_err(|error| unread_column(error, place))?;
+    detail_of_code(code).ok_or(StoreFault::Damaged(place))
 }
 
-/// How the receipt stands that a row shows.
+/// How the receipt stands that a row shows, which shows nothing else.
 fn receipt_stage_of(row: &Row) -> Result<ReceiptStage, StoreFault>
     ensures shown { IfOk result (λ receipt_stage. (m : ReceiptStage) → row.now ≡ receipt_stage_row m
         → receipt_stage ≡ m) }
     ensures fault { IfErr result (λ f. may_come f ≡ true) }
+    ensures row { IfErr result (λ f. comes_of (is_row_of table.Inbox) f ≡ true) }
 {
-    let code: i64 = row.get(0).map_err(fault_of)?;
-    receipt_stage_of_code(code).ok_or(StoreFault::Refused)
+    let place = RowPlace {
+        table: Table::Inbox,
+        number: 0,
+    };
+    let code: i64 = row.get(0).map_err(|error| unread_column(error, place))?;
+    receipt_stage_of_code(code).ok_or(StoreFault::Damaged(place))
 }
 
 /// The details that the rows show.
 fn details_in(alloc: Global, rows: &[Row]) -> Result<Vec<Detail>, StoreFault>
     ensures shown { IfOk result (λ details. (ds : List DetailOf) → rows.now ≡ map detail_row ds → details.items ≡ ds) }
     ensures fault { IfErr result (λ f. may_come f ≡ true) }
+    ensures row { IfErr result (λ f. comes_of (is_row_of table.Outbox) f ≡ true) }
 {
     let mut details = Vec::new(alloc);
     'rows: for row in rows {
@@ -82,6 +95,7 @@ fn receipt_stages_in(alloc: Global, rows: &[Row]) -> Result<Vec<ReceiptStage>, S
     ensures shown { IfOk result (λ receipt_stages. (ms : List ReceiptStage) → rows.now ≡ map receipt_stage_row ms
         → receipt_stages.items ≡ ms) }
     ensures fault { IfErr result (λ f. may_come f ≡ true) }
+    ensures row { IfErr result (λ f. comes_of (is_row_of table.Inbox) f ≡ true) }
 {
     let mut receipt_stages = Vec::new(alloc);
     'rows: for row in rows {
@@ -101,6 +115,7 @@ pub fn details<S: Alter>(conn: &mut Connection<S>, alloc: Global) -> Result<Vec<
     ensures details { ReadsTables (λ s details. details.items
         ≡ details_of s) (state S.Store conn.old) (state S.Store conn.new) result }
     ensures fault { IfErr result (λ f. may_come f ≡ true) }
+    ensures row { IfErr result (λ f. comes_of (is_row_of table.Outbox) f ≡ true) }
 {
     let rows = detail_rows(conn).map_err(fault_of)?;
     details_in(alloc, rows.as_slice())
@@ -116,6 +131,7 @@ pub fn receipt_stages<S: Alter>(
     ensures receipt_stages { ReadsTables (λ s receipt_stages. receipt_stages.items
         ≡ receipt_stages_of s) (state S.Store conn.old) (state S.Store conn.new) result }
     ensures fault { IfErr result (λ f. may_come f ≡ true) }
+    ensures row { IfErr result (λ f. comes_of (is_row_of table.Inbox) f ≡ true) }
 {
     let rows = receipt_stage_rows(conn).map_err(fault_of)?;
     receipt_stages_in(alloc, rows.as_slice())

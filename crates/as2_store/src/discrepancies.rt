@@ -7,18 +7,19 @@ ghost use Rattle.as2_rows.specs.Waiting.{kind_code};
 ghost use Rattle.as2_records.specs.Standing.{may_come};
 ghost use Rattle.as2_store.specs.Calls.{ReadsTables};
 ghost use Rattle.as2_store.specs.Discrepancies.{Compares, IsFirst, all_wanted, documents_wanted, owes_receipt, lower, number_told, receipts_wanted, rows_of, row_shown, wait_row, wait_told, is_waiting};
-ghost use Rattle.as2_store.specs.Stands.{all_waiting};
+ghost use Rattle.as2_exchange.specs.declared.place.Table.TheVariants as table;
+ghost use Rattle.as2_store.specs.Stands.{all_waiting, comes_of, is_row_of};
 ghost use Rattle.as2_store.specs.declared.discrepancies.PlacedWaitingRow.{PlacedWaitingRow as RowOf};
 
 use crate::counters::next_numbers;
-use crate::fault::fault_of;
+use crate::fault::{fault_of, place_of, unread_column};
 use crate::listing::{documents, entries};
 use crate::reading::query_all;
 use crate::waiting::{is_to_answer, wait_of};
-use as2_exchange::{END_OF_NUMBERS, StoreFault};
+use as2_exchange::{END_OF_NUMBERS, StoreFault, Table};
 use as2_records::{Discrepancy, InRow, NextNumbers, OutRow};
 use as2_rows::Wait;
-use sqlite::{Alter, Connection, Error, ErrorCode, Row};
+use sqlite::{Alter, Connection, Error, Row};
 use std::alloc::Global;
 
 /// A row of what waits.
@@ -62,15 +63,18 @@ fn read_row(row: &Row) -> Result<PlacedWaitingRow, Error>
 }
 
 /// What the rows show.
-fn read_rows(alloc: Global, rows: &[Row]) -> Result<Vec<PlacedWaitingRow>, Error>
-    ensures { IfOk result (λ read. (ws : List RowOf) → rows.now ≡ map row_shown ws → read.items ≡ ws) }
+fn read_rows(alloc: Global, rows: &[Row]) -> Result<Vec<PlacedWaitingRow>, StoreFault>
+    ensures shown { IfOk result (λ read. (ws : List RowOf) → rows.now ≡ map row_shown ws → read.items ≡ ws) }
+    ensures fault { IfErr result (λ f. may_come f ≡ true) }
+    ensures row { IfErr result (λ f. comes_of (is_row_of table.Waiting) f ≡ true) }
 {
     let mut read = Vec::new(alloc);
     'rows: for row in rows {
-        let wait = read_row(row)?;
+        let place = place_of(Table::Waiting, row, 2);
+        let wait = read_row(row).map_err(|error| unread_column(error, place))?;
         match read.push(wait) {
             Ok(()) => (),
-            Err(_) => return Err(Error::SqliteFailure(ErrorCode::OutOfMemory)),
+            Err(_) => return Err(StoreFault::Memory),
         }
     }
     Ok(read)
@@ -86,9 +90,10 @@ fn kept_rows<S: Alter>(
     ensures kept { ReadsTables (λ s kept. kept.items
         ≡ rows_of (all_waiting s)) (state S.Store conn.old) (state S.Store conn.new) result }
     ensures fault { IfErr result (λ f. may_come f ≡ true) }
+    ensures row { IfErr result (λ f. comes_of (is_row_of table.Waiting) f ≡ true) }
 {
     let rows = shown_rows(conn).map_err(fault_of)?;
-    read_rows(alloc, rows.as_slice()).map_err(fault_of)
+    read_rows(alloc, rows.as_slice())
 }
 
 /// Adds the row that an entry of this number waits by.

@@ -8,14 +8,15 @@ ghost use Rattle.as2_exchange.specs.declared.outbox.OutEntry.{OutEntry as Docume
 ghost use Rattle.as2_rows.specs.Rows.{out_shown};
 ghost use Rattle.as2_store.specs.Calls.{ReadsTables};
 ghost use Rattle.as2_store.specs.Finding.{evidence_at};
-ghost use Rattle.as2_store.specs.Stands.{Rests};
+ghost use Rattle.as2_exchange.specs.declared.place.Table.TheVariants as table;
+ghost use Rattle.as2_store.specs.Stands.{Rests, comes_of, is_in_outbox, is_row_at};
 ghost use Rattle.as2_records.specs.Standing.{may_come};
 
 use crate::contents::out_piece_rows;
-use crate::fault::{fault_of, unread_row};
+use crate::fault::{fault_of, place_of, unread_row};
 use crate::outbox::evidence_rows;
 use crate::resending::begun_in;
-use as2_exchange::{END_OF_NUMBERS, Evidence, OutEntry, StoreFault};
+use as2_exchange::{END_OF_NUMBERS, Evidence, OutEntry, RowPlace, StoreFault, Table};
 use as2_mic::Pieces;
 use as2_records::OutRow;
 use as2_rows::{EvidenceRow, content_in, read_out_row};
@@ -34,9 +35,15 @@ fn out_content<S: Alter>(
     ensures content { ReadsTables (λ s content. (p : Document → Bool) (d : Document) → find p s.outbox ≡ Some d
         → row.now.number ≡ d.number → content ≡ d.content) (state S.Store conn.old) (state S.Store conn.new) result }
     ensures fault { IfErr result (λ f. may_come f ≡ true) }
+    ensures piece { IfErr result (λ f. comes_of (is_row_at table.OutboxPiece row.now.number) f ≡ true) }
+    ensures row { IfErr result (λ f. comes_of is_in_outbox f ≡ true) }
 {
     let pieces = out_piece_rows(conn, row.number).map_err(fault_of)?;
-    content_in(alloc, &pieces, row.number, row.length).map_err(unread_row)
+    let place = RowPlace {
+        table: Table::OutboxPiece,
+        number: row.number,
+    };
+    content_in(alloc, &pieces, row.number, row.length).map_err(|fault| unread_row(fault, place))
 }
 
 /// The receipt that settled the document of this number, if there is one and one has.
@@ -50,12 +57,18 @@ pub fn evidence_in<S: Alter>(
     ensures evidence { ReadsTables (λ s evidence. evidence
         ≡ evidence_at s number) (state S.Store conn.old) (state S.Store conn.new) result }
     ensures fault { IfErr result (λ f. may_come f ≡ true) }
+    ensures receipt { IfErr result (λ f. comes_of (is_row_at table.Evidence number) f ≡ true) }
+    ensures row { IfErr result (λ f. comes_of is_in_outbox f ≡ true) }
 {
     let rows = evidence_rows(conn, number).map_err(fault_of)?;
     let Some(row) = rows.first() else {
         return Ok(None);
     };
-    let row = EvidenceRow::read(alloc, row).map_err(unread_row)?;
+    let place = RowPlace {
+        table: Table::Evidence,
+        number,
+    };
+    let row = EvidenceRow::read(alloc, row).map_err(|fault| unread_row(fault, place))?;
     Ok(Some(row.evidence))
 }
 
@@ -71,13 +84,15 @@ pub fn shown_document<S: Alter>(
     ensures found { ReadsTables (λ s found. (p : Document → Bool) → rows.now ≡ map out_shown (filter p s.outbox)
         → found ≡ find p s.outbox) (state S.Store conn.old) (state S.Store conn.new) result }
     ensures fault { IfErr result (λ f. may_come f ≡ true) }
+    ensures row { IfErr result (λ f. comes_of is_in_outbox f ≡ true) }
 {
     let Some(row) = rows.first() else {
         return Ok(None);
     };
-    let row = read_out_row(alloc, row).map_err(unread_row)?;
+    let place = place_of(Table::Outbox, row, 0);
+    let row = read_out_row(alloc, row).map_err(|fault| unread_row(fault, place))?;
     if row.number >= END_OF_NUMBERS {
-        return Err(StoreFault::Refused);
+        return Err(StoreFault::Damaged(place));
     }
     let content = out_content(conn, alloc, &row)?;
     let evidence = evidence_in(conn, alloc, row.number)?;

@@ -1,15 +1,19 @@
 //! What is due, by the rows of what waits.
 
-ghost use Rattle.std.specs.Prelude.{◌≡◌, [], false, Option, ℕ, IfOk};
+ghost use Rattle.std.specs.Prelude.{◌≡◌, [], true, false, Option, ℕ, IfOk, IfErr};
 ghost use Rattle.sqlite.specs.Held.{state};
 ghost use Rattle.as2_exchange.specs.Due.{least};
 ghost use Rattle.as2_rows.specs.Waiting.{kind_code};
 ghost use Rattle.as2_store.specs.Calls.{ReadsTables};
+ghost use Rattle.as2_exchange.specs.declared.place.Table.TheVariants as table;
+ghost use Rattle.as2_records.specs.Standing.{may_come};
 ghost use Rattle.as2_store.specs.Due.{due_numbers, number_rows};
+ghost use Rattle.as2_store.specs.Stands.{comes_of, is_row_of};
 
+use crate::fault::{fault_of, unread_column};
 use crate::numbers::whole;
 use crate::reading::query_all;
-use as2_exchange::END_OF_NUMBERS;
+use as2_exchange::{END_OF_NUMBERS, RowPlace, StoreFault, Table};
 use as2_rows::Wait;
 use as2_text::Moment;
 use sqlite::{Alter, Connection, Error, Row, params};
@@ -72,15 +76,22 @@ pub fn least_due<S: Alter>(
     conn: &mut Connection<S>,
     wait: Wait,
     moment: Moment,
-) -> Result<Option<u64>, Error>
+) -> Result<Option<u64>, StoreFault>
     requires autocommit { conn.old.in_transaction ≡ false }
     ensures autocommit { conn.new.in_transaction ≡ false }
     ensures due { ReadsTables (λ s number. number
         ≡ least (due_numbers (kind_code wait) moment s)) (state S.Store conn.old) (state S.Store conn.new) result }
+    ensures fault { IfErr result (λ f. may_come f ≡ true) }
+    ensures row { IfErr result (λ f. comes_of (is_row_of table.Waiting) f ≡ true) }
 {
-    if any_due_rows(conn, wait, moment)?.is_empty() {
+    let any = any_due_rows(conn, wait, moment).map_err(fault_of)?;
+    if any.is_empty() {
         return Ok(None);
     }
-    let rows = least_due_rows(conn, wait, moment)?;
-    number_in(&rows)
+    let rows = least_due_rows(conn, wait, moment).map_err(fault_of)?;
+    let place = RowPlace {
+        table: Table::Waiting,
+        number: 0,
+    };
+    number_in(&rows).map_err(|error| unread_column(error, place))
 }

@@ -9,9 +9,11 @@ ghost use Rattle.as2_store.specs.Calls.{ReadsTables};
 ghost use Rattle.as2_store.specs.Listing.{detail_in, first_detail, last_detail, state_codes};
 ghost use Rattle.as2_records.specs.Listing.{listed_rows};
 ghost use Rattle.as2_records.specs.Standing.{may_come};
+ghost use Rattle.as2_exchange.specs.declared.place.Table.TheVariants as table;
+ghost use Rattle.as2_store.specs.Stands.{comes_of, is_row_of};
 
-use crate::fault::{fault_of, unread_row};
-use as2_exchange::{END_OF_NUMBERS, StoreFault};
+use crate::fault::{fault_of, place_of, unread_row};
+use as2_exchange::{END_OF_NUMBERS, StoreFault, Table};
 use as2_mdn::{Detail, DetailClass};
 use as2_records::{InRow, OutRow};
 use as2_rows::{detail_code, read_in_row, read_out_row};
@@ -27,6 +29,7 @@ pub fn entries<S: Alter>(conn: &mut Connection<S>, alloc: Global) -> Result<Vec<
     ensures entries { ReadsTables (λ s entries. entries.items
         ≡ map in_summary s.inbox) (state S.Store conn.old) (state S.Store conn.new) result }
     ensures fault { IfErr result (λ f. may_come f ≡ true) }
+    ensures row { IfErr result (λ f. comes_of (is_row_of table.Inbox) f ≡ true) }
 {
     let mut entries = Vec::new(alloc);
     let mut rows = match conn.query(
@@ -44,7 +47,8 @@ pub fn entries<S: Alter>(conn: &mut Connection<S>, alloc: Global) -> Result<Vec<
         let Some(row) = rows.get() else {
             return Ok(entries);
         };
-        let entry = read_in_row(alloc, row).map_err(unread_row)?;
+        let place = place_of(Table::Inbox, row, 0);
+        let entry = read_in_row(alloc, row).map_err(|fault| unread_row(fault, place))?;
         match entries.push(entry) {
             Ok(()) => (),
             Err(_) => return Err(StoreFault::Memory),
@@ -86,6 +90,7 @@ fn list_if(
     ensures listed { OnOk result (documents.new.items
         ≡ (if detail_in wanted document.detail then documents.old.items ++ document ∷ [] else documents.old.items)) }
     ensures fault { IfErr result (λ f. may_come f ≡ true) }
+    ensures row { IfErr result (λ f. comes_of (is_row_of table.Outbox) f ≡ true) }
 {
     if !is_in(wanted, document.detail) {
         return Ok(());
@@ -110,6 +115,7 @@ fn documents_between<S: Alter>(
     ensures documents { ReadsTables (λ s documents. documents.items
         ≡ listed_rows wanted s) (state S.Store conn.old) (state S.Store conn.new) result }
     ensures fault { IfErr result (λ f. may_come f ≡ true) }
+    ensures row { IfErr result (λ f. comes_of (is_row_of table.Outbox) f ≡ true) }
 {
     let mut documents = Vec::new(alloc);
     let mut rows = match conn.query(
@@ -127,7 +133,8 @@ fn documents_between<S: Alter>(
         let Some(row) = rows.get() else {
             return Ok(documents);
         };
-        let document = read_out_row(alloc, row).map_err(unread_row)?;
+        let place = place_of(Table::Outbox, row, 0);
+        let document = read_out_row(alloc, row).map_err(|fault| unread_row(fault, place))?;
         list_if(&mut documents, wanted, document)?;
     }
     Err(StoreFault::Refused)
@@ -146,6 +153,7 @@ pub fn documents<S: Alter>(
     ensures documents { ReadsTables (λ s documents. documents.items
         ≡ listed_rows wanted s) (state S.Store conn.old) (state S.Store conn.new) result }
     ensures fault { IfErr result (λ f. may_come f ≡ true) }
+    ensures row { IfErr result (λ f. comes_of (is_row_of table.Outbox) f ≡ true) }
 {
     let (first, last) = details_of(wanted);
     documents_between(

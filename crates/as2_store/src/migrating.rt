@@ -10,7 +10,10 @@ ghost use Rattle.as2_records.specs.Standing.{IsCounted, may_come};
 ghost use Rattle.as2_rows.specs.Rows.{whole};
 ghost use Rattle.as2_store.specs.Calls.{IsGivenBack, IsInside};
 ghost use Rattle.as2_store.specs.Migrating.{AreShared, CommitsMigrated, IsBeside, IsCopied, IsInboxBeside, IsMigrationReason, IsMoved, IsNearly, StandsForMigrated, Migrates, StandsBut, is_full, migration_fault};
-ghost use Rattle.as2_store.specs.Stands.{Stands};
+ghost use Rattle.as2_exchange.specs.declared.fault.StoreFault.TheVariants.{Damaged};
+ghost use Rattle.as2_exchange.specs.declared.place.RowPlace.{RowPlace as Place};
+ghost use Rattle.as2_exchange.specs.declared.place.Table.TheVariants as table;
+ghost use Rattle.as2_store.specs.Stands.{Stands, is_row_of};
 ghost use Rattle.as2_store.specs.Tables.{Layout, Migrated, VersionOne, VersionThree, VersionTwo, Way, number_of};
 
 use crate::adopting::unread;
@@ -18,7 +21,7 @@ use crate::creating::run;
 use crate::fault::fault_of;
 use crate::numbers::whole;
 use crate::origin::put_origin;
-use as2_exchange::StoreFault;
+use as2_exchange::{RowPlace, StoreFault, Table};
 use sqlite::types::ValueRef;
 use sqlite::{Alter, Connection, Error, Row, Transaction, params};
 
@@ -214,6 +217,7 @@ fn told(rows: &[Row]) -> Result<Earlier, StoreFault>
     ensures fault { IfErr result (λ f. (may_come f ≡ true)
         ⊎ ((kind : List ℕ) (version n m : ℕ) → rows.now ≡ (Text kind ∷ whole version ∷ whole n ∷ whole m ∷ []) ∷ []
         → migration_fault kind version ≡ Some f)) }
+    ensures row { IfErr result (λ f. (place : Place) → f ≡ Damaged place → is_row_of table.Meta place ≡ true) }
 {
     let [row] = rows else {
         return Err(StoreFault::NotAStore);
@@ -238,7 +242,10 @@ fn told(rows: &[Row]) -> Result<Earlier, StoreFault>
         },
         _ => (),
     }
-    Err(StoreFault::Refused)
+    Err(StoreFault::Damaged(RowPlace {
+        table: Table::Meta,
+        number: 0,
+    }))
 }
 
 /// Makes tables of an earlier version those of the current one, but for the version in `meta`.

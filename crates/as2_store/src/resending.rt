@@ -10,7 +10,8 @@ ghost use Rattle.as2_exchange.specs.declared.outbox.OutEntry.{OutEntry as Docume
 ghost use Rattle.as2_store.specs.Calls.{IsInside, ReadsTables};
 ghost use Rattle.as2_store.specs.Due.{number_row};
 ghost use Rattle.as2_store.specs.Resending.{HoldsResent, IsReady, has_row, tried_numbers};
-ghost use Rattle.as2_store.specs.Stands.{Stands, resent_row};
+ghost use Rattle.as2_exchange.specs.declared.place.RowPlace.{RowPlace as Place};
+ghost use Rattle.as2_store.specs.Stands.{Stands, comes_of, resent_row};
 ghost use Rattle.as2_store.specs.Tables.{Way, VersionThree, store_schema, resent_tree};
 ghost use Rattle.as2_records.specs.Standing.{may_come};
 
@@ -136,6 +137,7 @@ pub fn begun_in<S: Alter>(conn: &mut Connection<S>, row: &OutRow) -> Result<bool
         → row.now.number ≡ d.number → row.now.tries ≡ d.tries
         → begun ≡ d.begun) (state S.Store conn.old) (state S.Store conn.new) result }
     ensures fault { IfErr result (λ f. may_come f ≡ true) }
+    ensures row { IfErr result (λ f. (is_there : Place → Bool) → comes_of is_there f ≡ true) }
 {
     if row.tries >= 1 {
         return Ok(true);

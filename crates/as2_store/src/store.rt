@@ -22,6 +22,8 @@ ghost use Rattle.as2_records.specs.Requeuing.{requeued_in};
 ghost use Rattle.as2_records.specs.Resending.{resent_in};
 ghost use Rattle.as2_records.specs.Settling.{settled_in};
 ghost use Rattle.as2_records.specs.Standing.{may_come};
+ghost use Rattle.as2_exchange.specs.declared.place.Table.TheVariants as table;
+ghost use Rattle.as2_store.specs.Stands.{comes_of, is_in_inbox, is_in_outbox, is_row_at, is_row_of};
 
 use crate::adding::add;
 use crate::adopting::check;
@@ -33,7 +35,7 @@ use crate::documents::{evidence_in, shown_document};
 use crate::due::least_due;
 use crate::entries::shown_entry;
 use crate::expiring::expire;
-use crate::fault::fault_of;
+use crate::fault::{fault_of, unread_column};
 use crate::inbox::rows_by_key;
 use crate::migrating::migrate;
 use crate::numbers::{fits, fits_progress, fits_receipt};
@@ -45,7 +47,8 @@ use crate::settling::settle;
 use crate::submitting::{add_document, is_begun_by_tries};
 use crate::{inbox, listing, outbox, owed};
 use as2_exchange::{
-    Attempt, END_OF_NUMBERS, Evidence, InEntry, OutEntry, ReceiptStage, StoreFault, is_by_receipt,
+    Attempt, END_OF_NUMBERS, Evidence, InEntry, OutEntry, ReceiptStage, RowPlace, StoreFault,
+    Table, is_by_receipt,
 };
 use as2_mdn::{Detail, DetailClass};
 use as2_records::{Counts, Discrepancy, InRow, NextNumbers, OutRow, Progress, ReceiptProgress};
@@ -112,7 +115,7 @@ impl<S: Alter> Store<S> {
 
     /// Takes a connection whose tables are those of a store of version 1 or 2, and makes them those of version 3, in one transaction.
     /// Answers NotAStore where the table `meta` can't be read, or doesn't hold one row with the kind of a store; OtherVersion where its
-    /// version isn't 1 or 2; Memory, Disk or Refused; and then the tables are as they were.
+    /// version isn't 1 or 2; Memory, Disk, Refused or Damaged; and then the tables are as they were.
     pub fn migrate(mut conn: Connection<S>) -> Result<Store<S>, (Connection<S>, StoreFault)>
         requires autocommit { conn.in_transaction ≡ false }
         ensures migrated { IfOk result (λ store. Migrates (state S.Store conn) (state S.Store store)) }
@@ -140,19 +143,25 @@ impl<S: Alter> Store<S> {
         ensures numbers { ReadsTables (λ s next. AreNext next s) (state S.Store self.old) (state S.Store self.new)
             result }
         ensures fault { IfErr result (λ f. may_come f ≡ true) }
+        ensures row { IfErr result (λ f. comes_of (is_row_of table.Meta) f ≡ true) }
     {
         next_numbers(&mut self.conn)
     }
 
-    /// The number below which receipts were recorded by the first version of the tables, 0 where none was. Answers Memory, Disk or
-    /// Refused.
+    /// The number below which receipts were recorded by the first version of the tables, 0 where none was. Answers Memory, Disk, Refused or
+    /// Damaged.
     pub fn origin(&mut self) -> Result<u64, StoreFault>
         ensures origin { ReadsTables (λ s number. number
             ≡ origin_of s.version) (state S.Store self.old) (state S.Store self.new) result }
         ensures fault { IfErr result (λ f. may_come f ≡ true) }
+        ensures row { IfErr result (λ f. comes_of (is_row_of table.Origin) f ≡ true) }
     {
         let rows = origin_rows(&mut self.conn).map_err(fault_of)?;
-        origin_in(&rows).map_err(fault_of)
+        let place = RowPlace {
+            table: Table::Origin,
+            number: 0,
+        };
+        origin_in(&rows).map_err(|error| unread_column(error, place))
     }
 
     /// Adds an entry to the inbox under the next number of a receipt, as `next_numbers` gives it. Answers Full exactly where the
@@ -300,6 +309,7 @@ impl<S: Alter> Store<S> {
         ensures found { ReadsTables (IsPostedAs sender.now receiver.now id_value.now) (state S.Store self.old)
             (state S.Store self.new) result }
         ensures fault { IfErr result (λ f. may_come f ≡ true) }
+        ensures row { IfErr result (λ f. comes_of is_in_inbox f ≡ true) }
     {
         let rows = rows_by_key(
             &mut self.conn,
@@ -320,23 +330,25 @@ impl<S: Alter> Store<S> {
         ensures found { ReadsTables (λ s found. found
             ≡ received_entry s number) (state S.Store self.old) (state S.Store self.new) result }
         ensures fault { IfErr result (λ f. may_come f ≡ true) }
+        ensures row { IfErr result (λ f. comes_of is_in_inbox f ≡ true) }
     {
         let rows = inbox::rows_by_number(&mut self.conn, number).map_err(fault_of)?;
         shown_entry(&mut self.conn, alloc, &rows)
     }
 
-    /// The document of this number, if there is one, with its content and its evidence. Answers Memory, Disk or Refused.
+    /// The document of this number, if there is one, with its content and its evidence. Answers Memory, Disk, Refused or Damaged.
     pub fn find_out(&mut self, alloc: Global, number: u64) -> Result<Option<OutEntry>, StoreFault>
         ensures found { ReadsTables (λ s found. found
             ≡ document s number) (state S.Store self.old) (state S.Store self.new) result }
         ensures fault { IfErr result (λ f. may_come f ≡ true) }
+        ensures row { IfErr result (λ f. comes_of is_in_outbox f ≡ true) }
     {
         let rows = outbox::rows_by_number(&mut self.conn, number).map_err(fault_of)?;
         shown_document(&mut self.conn, alloc, &rows)
     }
 
     /// The document of the outbox with an identifier of this value, if there is one, with its content and its evidence.
-    /// Answers Memory, Disk or Refused.
+    /// Answers Memory, Disk, Refused or Damaged.
     pub fn find_out_by_id(
         &mut self,
         alloc: Global,
@@ -345,43 +357,47 @@ impl<S: Alter> Store<S> {
         ensures found { ReadsTables (λ s found. found
             ≡ document_named s id_value.now) (state S.Store self.old) (state S.Store self.new) result }
         ensures fault { IfErr result (λ f. may_come f ≡ true) }
+        ensures row { IfErr result (λ f. comes_of is_in_outbox f ≡ true) }
     {
         let rows = rows_by_id(&mut self.conn, id_value).map_err(fault_of)?;
         shown_document(&mut self.conn, alloc, &rows)
     }
 
     /// The receipt that settled the document of this number; None where none has, or where there is no such document. Answers
-    /// Memory, Disk or Refused.
+    /// Memory, Disk, Refused or Damaged.
     pub fn evidence(&mut self, alloc: Global, number: u64) -> Result<Option<Evidence>, StoreFault>
         ensures found { ReadsTables (λ s found. found
             ≡ evidence_at s number) (state S.Store self.old) (state S.Store self.new) result }
         ensures fault { IfErr result (λ f. may_come f ≡ true) }
+        ensures row { IfErr result (λ f. comes_of (is_row_at table.Evidence number) f ≡ true) }
     {
         evidence_in(&mut self.conn, alloc, number)
     }
 
-    /// The least number of the documents of which a try may begin at this moment, if there is one. Answers Memory, Disk or
-    /// Refused.
+    /// The least number of the documents of which a try may begin at this moment, if there is one. Answers Memory, Disk, Refused or
+    /// Damaged.
     pub fn due_out(&mut self, moment: Moment) -> Result<Option<u64>, StoreFault>
         ensures due { ReadsTables (λ s number. number
             ≡ least (due_documents s moment)) (state S.Store self.old) (state S.Store self.new) result }
         ensures fault { IfErr result (λ f. may_come f ≡ true) }
+        ensures row { IfErr result (λ f. comes_of (is_row_of table.Waiting) f ≡ true) }
     {
-        least_due(&mut self.conn, Wait::ToSend, moment).map_err(fault_of)
+        least_due(&mut self.conn, Wait::ToSend, moment)
     }
 
-    /// The least number of the receipts of which a try may begin at this moment, if there is one. Answers Memory, Disk or
-    /// Refused.
+    /// The least number of the receipts of which a try may begin at this moment, if there is one. Answers Memory, Disk, Refused or
+    /// Damaged.
     pub fn due_receipt(&mut self, moment: Moment) -> Result<Option<u64>, StoreFault>
         ensures due { ReadsTables (λ s number. number
             ≡ least (due_receipts s moment)) (state S.Store self.old) (state S.Store self.new) result }
         ensures fault { IfErr result (λ f. may_come f ≡ true) }
+        ensures row { IfErr result (λ f. comes_of (is_row_of table.Waiting) f ≡ true) }
     {
-        least_due(&mut self.conn, Wait::ToSendReceipt, moment).map_err(fault_of)
+        least_due(&mut self.conn, Wait::ToSendReceipt, moment)
     }
 
     /// The documents of that state, or all, in order of number, each with the length of its content in place of the content,
-    /// and without its evidence. Answers Memory, Disk or Refused.
+    /// and without its evidence. Answers Memory, Disk, Refused or Damaged.
     pub fn list_out(
         &mut self,
         alloc: Global,
@@ -390,33 +406,40 @@ impl<S: Alter> Store<S> {
         ensures documents { ReadsTables (λ s documents. documents.items
             ≡ listed_rows wanted s) (state S.Store self.old) (state S.Store self.new) result }
         ensures fault { IfErr result (λ f. may_come f ≡ true) }
+        ensures row { IfErr result (λ f. comes_of (is_row_of table.Outbox) f ≡ true) }
     {
         meta_rows(&mut self.conn).map_err(fault_of)?;
         listing::documents(&mut self.conn, alloc, wanted)
     }
 
     /// The entries of the inbox in order of number, each with the length of its content in place of the content. Answers
-    /// Memory, Disk or Refused.
+    /// Memory, Disk, Refused or Damaged.
     pub fn list_in(&mut self, alloc: Global) -> Result<Vec<InRow>, StoreFault>
         ensures entries { ReadsTables (λ s entries. entries.items
             ≡ map in_summary s.inbox) (state S.Store self.old) (state S.Store self.new) result }
         ensures fault { IfErr result (λ f. may_come f ≡ true) }
+        ensures row { IfErr result (λ f. comes_of (is_row_of table.Inbox) f ≡ true) }
     {
         meta_rows(&mut self.conn).map_err(fault_of)?;
         listing::entries(&mut self.conn, alloc)
     }
 
-    /// The numbers of the documents that a receipt has settled, in order. Answers Memory, Disk or Refused.
+    /// The numbers of the documents that a receipt has settled, in order. Answers Memory, Disk, Refused or Damaged.
     pub fn settled(&mut self, alloc: Global) -> Result<Vec<u64>, StoreFault>
         ensures numbers { ReadsTables (λ s numbers. numbers.items
             ≡ settled_numbers s) (state S.Store self.old) (state S.Store self.new) result }
         ensures fault { IfErr result (λ f. may_come f ≡ true) }
+        ensures row { IfErr result (λ f. comes_of (is_row_of table.Evidence) f ≡ true) }
     {
         let rows = settled_rows(&mut self.conn).map_err(fault_of)?;
-        numbers_in(alloc, rows.as_slice()).map_err(fault_of)
+        let place = RowPlace {
+            table: Table::Evidence,
+            number: 0,
+        };
+        numbers_in(alloc, rows.as_slice()).map_err(|error| unread_column(error, place))
     }
 
-    /// How much is outstanding. Answers Memory, Disk or Refused.
+    /// How much is outstanding. Answers Memory, Disk, Refused or Damaged.
     pub fn counts(&mut self, alloc: Global) -> Result<Counts, StoreFault>
         ensures counts { ReadsTables (λ s counts. counts
             ≡ counts_of s) (state S.Store self.old) (state S.Store self.new) result }
@@ -428,7 +451,7 @@ impl<S: Alter> Store<S> {
     }
 
     /// The first discrepancy between the entries and what is kept beside them, the counters and what waits. Tables that stand for a
-    /// state have none. Answers Memory, Disk or Refused.
+    /// state have none. Answers Memory, Disk, Refused or Damaged.
     pub fn discrepancy(&mut self, alloc: Global) -> Result<Option<Discrepancy>, StoreFault>
         ensures none { ReadsTables (λ s found. found ≡ None) (state S.Store self.old) (state S.Store self.new) result }
         ensures fault { IfErr result (λ f. may_come f ≡ true) }

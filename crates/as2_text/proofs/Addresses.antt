@@ -77,13 +77,15 @@ url_found text url e =
     let outer = guarded (nat_le (length text) 1024 && is_http text) (address_in (drop 7 text)) url e in
     let tests = and_parts (nat_le (length text) 1024) (is_http text) outer.0 in
     let rest : List ℕ = drop 7 text in
-    let inner = guarded (is_authority (before_slash rest) && may_follow (from_slash rest)) (Some (before_slash rest, target_in (from_slash rest))) url outer.1 in
+    let inner = guarded (is_authority (before_slash rest) && may_follow (from_slash rest))
+    (Some (before_slash rest, target_in (from_slash rest))) url outer.1 in
     let parts = and_parts (is_authority (before_slash rest)) (may_follow (from_slash rest)) inner.0 in
     let same : (before_slash rest, target_in (from_slash rest)) ≡ url = cc in
     subst (IsUrl text) same (record {
       scheme = take 7 text;
       behind = from_slash rest;
-      whole = sym (append_assoc (take 7 text) (before_slash rest) (from_slash rest) ∙ ap (λ (x : List ℕ). take 7 text ++ x) (slash_joins rest) ∙ take-append-drop 7 text);
+      whole = sym (append_assoc (take 7 text) (before_slash rest) (from_slash rest) ∙ ap (λ (x : List ℕ). take 7 text ++ x) (slash_joins rest)
+          ∙ take-append-drop 7 text);
       http = tests.1;
       authority = authority_found (before_slash rest) parts.0;
       target = target_found (from_slash rest) parts.1;
@@ -94,7 +96,8 @@ url_found text url e =
 
 scheme_length : (scheme : List ℕ) → IsTrue (str_eq_ignore_ascii_case scheme (codes "http://")) → length scheme ≡ 7
 scheme_length scheme h =
-    let same : str_to_ascii_lowercase scheme ≡ str_to_ascii_lowercase (codes "http://") = (bytes_eq-Decides (str_to_ascii_lowercase scheme) (str_to_ascii_lowercase (codes "http://"))).0 h in
+    let same : str_to_ascii_lowercase scheme ≡ str_to_ascii_lowercase (codes "http://") =
+    (bytes_eq-Decides (str_to_ascii_lowercase scheme) (str_to_ascii_lowercase (codes "http://"))).0 h in
     sym (length-map scheme _) ∙ ap length same
 
 -- bytes of a test that no slash meets lack it
@@ -128,12 +131,15 @@ lacks_append byte (x ∷ rest) back f b = lacks_front byte x (rest ++ back) (lac
 
 no_slash : (authority : List ℕ) → IsAuthority authority → Lacks slash authority
 no_slash authority (inl h) = no_slash_in_host authority h
-no_slash authority (inr p) = subst (Lacks slash) (sym p.whole) (lacks_append slash p.host (colon ∷ p.port) (no_slash_in_host p.host p.is_host) (lacks_front slash colon p.port refl (no_slash_in_port p.port p.is_port)))
+no_slash authority (inr p) =
+    subst (Lacks slash) (sym p.whole)
+    (lacks_append slash p.host (colon ∷ p.port) (no_slash_in_host p.host p.is_host) (lacks_front slash colon p.port refl (no_slash_in_port p.port p.is_port)))
 
 authority_again : (authority : List ℕ) → IsAuthority authority → is_authority authority ≡ true
 authority_again authority (inl h) = or_left (is_host authority) (are_host_and_port (cut_at colon authority)) h
 authority_again authority (inr p) =
-    let cut : cut_at colon authority ≡ Some (p.host, p.port) = cut_some colon authority p.host p.port (record { whole = p.whole; first = no_colon_in_host p.host p.is_host }) in
+    let cut : cut_at colon authority ≡ Some (p.host, p.port) =
+    cut_some colon authority p.host p.port (record { whole = p.whole; first = no_colon_in_host p.host p.is_host }) in
     or_right (is_host authority) (are_host_and_port (cut_at colon authority)) (rw cut (and_from (is_host p.host) (is_port p.port) p.is_host p.is_port))
 
 -- the text behind the scheme, in its two

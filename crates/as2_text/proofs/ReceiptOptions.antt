@@ -26,7 +26,8 @@ more_of None texts text e = rw e refl
 more_of (Some option) texts text e = rw e refl
 
 options_cut : (text before behind : List ℕ) → IsCutAt semicolon text before behind → options_in text ≡ more (option_of before) (options_in behind)
-options_cut text before behind c = ap (filter_map option_of) (parts_cut semicolon text before behind c) ∙ more_of (option_of before) (slice_split is_semicolon behind) before refl
+options_cut text before behind c = ap (filter_map option_of) (parts_cut semicolon text before behind c)
+    ∙ more_of (option_of before) (slice_split is_semicolon behind) before refl
 
 options_whole : (text : List ℕ) → Lacks semicolon text → options_in text ≡ more (option_of text) []
 options_whole text lacks = ap (filter_map option_of) (slice_split_none is_semicolon text lacks) ∙ more_of (option_of text) [] text refl
@@ -52,18 +53,21 @@ first_cut name text before behind c = ap (first_named name) (options_cut text be
 
 pub first_found : (name text before behind : List ℕ) (option : ReceiptOption) → IsCutAt semicolon text before behind
     → where_named name (option_of before) ≡ Some option → first_named name (options_in text) ≡ Some option
-first_found name text before behind option c e = first_cut name text before behind c ∙ ap (λ (r : Option ReceiptOption). first_option r (first_named name (options_in behind))) e
+first_found name text before behind option c e = first_cut name text before behind c
+    ∙ ap (λ (r : Option ReceiptOption). first_option r (first_named name (options_in behind))) e
 
 pub first_on : (name text before behind : List ℕ) → IsCutAt semicolon text before behind → where_named name (option_of before) ≡ None
     → first_named name (options_in behind) ≡ first_named name (options_in text)
-first_on name text before behind c e = sym (first_cut name text before behind c ∙ ap (λ (r : Option ReceiptOption). first_option r (first_named name (options_in behind))) e)
+first_on name text before behind c e =
+    sym (first_cut name text before behind c ∙ ap (λ (r : Option ReceiptOption). first_option r (first_named name (options_in behind))) e)
 
 or_none : (first : Option ReceiptOption) → first_option first None ≡ first
 or_none None = refl
 or_none (Some option) = refl
 
 pub first_whole : (name text : List ℕ) → Lacks semicolon text → first_named name (options_in text) ≡ where_named name (option_of text)
-first_whole name text lacks = ap (first_named name) (options_whole text lacks) ∙ first_more name (option_of text) [] ∙ or_none (where_named name (option_of text))
+first_whole name text lacks = ap (first_named name) (options_whole text lacks) ∙ first_more name (option_of text) []
+    ∙ or_none (where_named name (option_of text))
 
 pub found_any : (name : List ℕ) (options : List ReceiptOption) → is_some (first_named name options) ≡ list_any (has_name name) options
 found_any name [] = refl
@@ -102,14 +106,16 @@ distinct_whole text lacks = one_is_distinct (option_of text) ∙ sym (ap are_dis
 -- ---- options that are required
 
 required_more : (first : Option ReceiptOption) (texts : List (List ℕ)) (text : List ℕ) → option_of text ≡ first
-    → list_any is_other_required (filter_map option_of (text ∷ texts)) ≡ (is_required_other (option_of text) || list_any is_other_required (filter_map option_of texts))
+    → list_any is_other_required (filter_map option_of (text ∷ texts)) ≡
+    (is_required_other (option_of text) || list_any is_other_required (filter_map option_of texts))
 required_more None texts text e = rw e refl
 required_more (Some option) texts text e = rw e refl
 
 pub required_among : (texts : List (List ℕ))
     → list_any (λ text. is_required_other (option_of text)) texts ≡ list_any is_other_required (filter_map option_of texts)
 required_among [] = refl
-required_among (text ∷ texts) = ap (λ (t : Bool). is_required_other (option_of text) || t) (required_among texts) ∙ sym (required_more (option_of text) texts text refl)
+required_among (text ∷ texts) = ap (λ (t : Bool). is_required_other (option_of text) || t) (required_among texts)
+    ∙ sym (required_more (option_of text) texts text refl)
 
 -- ---- what is said, and what is read
 
@@ -145,7 +151,8 @@ with_found parameter named valued option c d (Some importance) i e =
 behind_found : (parameter : List ℕ) (named : List ℕ × List ℕ) (option : ReceiptOption) → IsCutAt equals_sign parameter named.0 named.1
     → (cut : Option (List ℕ × List ℕ)) → cut_at comma named.1 ≡ cut → option_behind (without_blanks named.0) cut ≡ Some option → IsOption parameter option
 behind_found parameter named option c None d e = absurd cc
-behind_found parameter named option c (Some valued) d e = with_found parameter named valued option c (cut_found comma named.1 valued d) (importance_of (without_blanks valued.0)) refl e
+behind_found parameter named option c (Some valued) d e =
+    with_found parameter named valued option c (cut_found comma named.1 valued d) (importance_of (without_blanks valued.0)) refl e
 
 cut_is_option : (parameter : List ℕ) (option : ReceiptOption) (cut : Option (List ℕ × List ℕ)) → cut_at equals_sign parameter ≡ cut
     → option_cut cut ≡ Some option → IsOption parameter option
@@ -161,10 +168,13 @@ option_found parameter option some e =
 -- a parameter that is an option is read as it
 option_again : (parameter : List ℕ) (option : ReceiptOption) → is_empty parameter ≡ false → IsOption parameter option → option_of parameter ≡ Some option
 option_again parameter option some o =
-    let first : cut_at equals_sign parameter ≡ Some (o.before_equals, o.behind_equals) = cut_some equals_sign parameter o.before_equals o.behind_equals o.equals in
+    let first : cut_at equals_sign parameter ≡ Some (o.before_equals, o.behind_equals) =
+    cut_some equals_sign parameter o.before_equals o.behind_equals o.equals in
     let second : cut_at comma o.behind_equals ≡ Some (o.word, o.given) = cut_some comma o.behind_equals o.word o.given o.comma in
     let token : is_token (without_blanks o.before_equals) ≡ true = rw (← o.name) o.is_name in
-    let read : option_of parameter ≡ Some (record { name = without_blanks o.before_equals; importance = option.importance; values = without_blanks o.given }) = rw (some, first, second, o.importance, token, o.are_values) refl in
+    let read : option_of parameter ≡ Some
+    (record { name = without_blanks o.before_equals; importance = option.importance; values = without_blanks o.given }) =
+    rw (some, first, second, o.importance, token, o.are_values) refl in
     read ∙ (λ i. Some (record { name = sym o.name i; importance = option.importance; values = sym o.values i }))
 
 -- ---- the parameters
@@ -189,7 +199,8 @@ all_found (parameter ∷ rest) h =
     let others = all_found rest tests.1 in
     elim (cases_Bool (is_empty parameter)) [
       | inl none ↦ inl (none, subst (AreOptions rest) (sym (skipped parameter rest none)) others)
-      | inr some ↦ read_next parameter rest (option_of parameter) refl (subst (λ (t : Bool). (t || is_some (option_of parameter)) ≡ true) some tests.0) some others
+      | inr some ↦ read_next parameter rest (option_of parameter) refl
+          (subst (λ (t : Bool). (t || is_some (option_of parameter)) ≡ true) some tests.0) some others
     ]
 
 -- the parameters can be read, and as those options
@@ -209,7 +220,8 @@ all_again (parameter ∷ rest) options (inr a) =
     let read : option_of parameter ≡ Some a.1.0 = option_again parameter a.1.0 a.0 a.1.3 in
     let r = all_again rest a.1.1 a.1.4 in
     record {
-      readable = and_from (is_readable parameter) (list_all is_readable rest) (or_right (is_empty parameter) (is_some (option_of parameter)) (ap is_some read)) r.readable;
+      readable = and_from (is_readable parameter) (list_all is_readable rest)
+          (or_right (is_empty parameter) (is_some (option_of parameter)) (ap is_some read)) r.readable;
       gives = more_of (Some a.1.0) rest parameter read ∙ ap (λ (x : List ReceiptOption). a.1.0 ∷ x) r.gives ∙ sym a.1.2;
     }
 

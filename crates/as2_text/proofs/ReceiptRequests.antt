@@ -117,7 +117,8 @@ given_again vs text (inr g) = (ap is_given_twice g, ap text_of g)
 
 delivered_again : (vs : List (List ℕ)) (delivery : How) (options : List ReceiptOption) → SaysHow vs delivery → (is_given_twice vs ≡ false)
     × (request_to_addresses vs options ≡ Ok (asked_by delivery options))
-delivered_again vs delivery options (inl s) = (ap is_given_twice s.0, ap (λ (x : List (List ℕ)). request_to_addresses x options) s.0 ∙ ap (λ (h : How). Ok (asked_by h options)) (sym s.1))
+delivered_again vs delivery options (inl s) =
+    (ap is_given_twice s.0, ap (λ (x : List (List ℕ)). request_to_addresses x options) s.0 ∙ ap (λ (h : How). Ok (asked_by h options)) (sym s.1))
 delivered_again vs delivery options (inr s) = (
   ap is_given_twice s.2,
   ap (λ (x : List (List ℕ)). request_to_addresses x options) s.2
@@ -130,7 +131,9 @@ asked_again head request a =
     let given = given_again (notification_options head) a.options_text a.given in
     let comes = delivered_again (delivery_option head) a.delivery a.options a.how in
     let read = options_again a.options_text a.options a.says in
-    let single : has_twice head ≡ false = or_from (is_given_twice (notification_to head) || is_given_twice (notification_options head)) (is_given_twice (delivery_option head)) (or_from (is_given_twice (notification_to head)) (is_given_twice (notification_options head)) (ap is_given_twice a.asked) given.0) comes.0 in
+    let single : has_twice head ≡ false =
+    or_from (is_given_twice (notification_to head) || is_given_twice (notification_options head)) (is_given_twice (delivery_option head))
+    (or_from (is_given_twice (notification_to head)) (is_given_twice (notification_options head)) (ap is_given_twice a.asked) given.0) comes.0 in
     let right : request_in_head head ≡ Ok request = rw (single, given.1, read.readable, read.gives, comes.1) (ap (λ (r : Request). Ok r) (sym a.request_is)) in
     ap (λ (vs : List (List ℕ)). asked_where vs head) a.asked ∙ right
 

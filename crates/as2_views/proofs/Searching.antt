@@ -44,4 +44,5 @@ found numbers n (Ok i) up at =
     sym (list_any_at (λ k. k == n) numbers i 0 s.0 (same (get_or numbers i 0) n s.1))
 found numbers n (Err i) up at =
     let s = searched numbers n (Err i) at (in_order numbers up) in
-    sym (list_any_none (λ k. k == n) numbers (λ k d l. ap (λ a. a == n) (get_or_default_zero numbers k d l) ∙ parted (get_or numbers k 0) n k i (s.1 k) (λ le. s.2 k le l)))
+    sym (list_any_none (λ k. k == n) numbers
+    (λ k d l. ap (λ a. a == n) (get_or_default_zero numbers k d l) ∙ parted (get_or numbers k 0) n k i (s.1 k) (λ le. s.2 k le l)))

@@ -19,7 +19,21 @@ use Rattle.as2_views.specs.Texts.{list_out, list_in, outstanding_text, show_text
 
 -- a document as it stands
 abbrev standing : ℕ → ℕ → Attempt → Option ℕ → Detail → Option Evidence → OutEntry
-standing n tries attempt due detail evidence = record { number = n; organization = codes "Supplier"; partner = codes "Depot"; id = codes "<out-1@station.example>"; content = codes "abc"; moment = 1000; begun = nat_le 1 tries; tries = tries; attempt = attempt; due = due; detail = detail; evidence = evidence }
+standing n tries attempt due detail evidence =
+    record {
+      number = n;
+      organization = codes "Supplier";
+      partner = codes "Depot";
+      id = codes "<out-1@station.example>";
+      content = codes "abc";
+      moment = 1000;
+      begun = nat_le 1 tries;
+      tries = tries;
+      attempt = attempt;
+      due = due;
+      detail = detail;
+      evidence = evidence;
+    }
 
 -- one that a receipt of 406 bytes has settled
 after_settling : State
@@ -32,12 +46,14 @@ after_settling = record {
 }
 
 list_and_show : (list_out after_settling None ≡ codes "           1 S  1 R processed        Supplier -> Depot\n")
-    × (show_text after_settling 1 ≡ Some (codes "number: 1\nstate: S processed\ntries: 1\ndue: -\nfrom: Supplier\nto: Depot\nidentifier: <out-1@station.example>\ncontent: 3 bytes\nreceipt: R at 1000, 406 bytes\n"))
+    × (show_text after_settling 1 ≡ Some
+    (codes "number: 1\nstate: S processed\ntries: 1\ndue: -\nfrom: Supplier\nto: Depot\nidentifier: <out-1@station.example>\ncontent: 3 bytes\nreceipt: R at 1000, 406 bytes\n"))
     × (show_text after_settling 2 ≡ None)
 unfolding after_settling digits
 list_and_show = (refl, refl, refl)
 
-nothing_outstanding : outstanding_text (empty (LaterVersion 0) 1) 1000 ≡ codes "documents not sent: 0\ndocuments in retry: 0\nreceipts awaited: 0\ndocuments in error: 0\nreceipts to send: 0\n"
+nothing_outstanding : outstanding_text
+    (empty (LaterVersion 0) 1) 1000 ≡ codes "documents not sent: 0\ndocuments in retry: 0\nreceipts awaited: 0\ndocuments in error: 0\nreceipts to send: 0\n"
 unfolding digits
 nothing_outstanding = refl
 
@@ -46,7 +62,8 @@ under_way : State
 under_way = record {
   version = LaterVersion 0;
   inbox = [];
-  outbox = standing 1 0 Idle (Some 1000) New None ∷ standing 2 1 Idle (Some 1030) Retry None ∷ standing 3 1 Idle (Some 1060) Awaiting None ∷ standing 4 1 Idle None Overdue None ∷ standing 5 1 Running (Some 1031) Sending None ∷ [];
+  outbox = standing 1 0 Idle (Some 1000) New None ∷ standing 2 1 Idle (Some 1030) Retry None ∷ standing 3 1 Idle
+      (Some 1060) Awaiting None ∷ standing 4 1 Idle None Overdue None ∷ standing 5 1 Running (Some 1031) Sending None ∷ [];
   next_in = 1;
   next_out = 6;
 }
@@ -57,9 +74,11 @@ unfolding under_way digits
 outstanding_at_1030 = refl
 
 -- the documents of one state, in order of number; and one document that is due
-listed_by_state : (list_out under_way (Some R) ≡ codes "           2 R  1 - retry            Supplier -> Depot\n           5 R  1 - sending          Supplier -> Depot\n")
+listed_by_state : (list_out under_way
+    (Some R) ≡ codes "           2 R  1 - retry            Supplier -> Depot\n           5 R  1 - sending          Supplier -> Depot\n")
     × (list_out under_way (Some S) ≡ [])
-    × (show_text under_way 3 ≡ Some (codes "number: 3\nstate: P awaiting\ntries: 1\ndue: 1060\nfrom: Supplier\nto: Depot\nidentifier: <out-1@station.example>\ncontent: 3 bytes\nreceipt: -\n"))
+    × (show_text under_way 3 ≡ Some
+    (codes "number: 3\nstate: P awaiting\ntries: 1\ndue: 1060\nfrom: Supplier\nto: Depot\nidentifier: <out-1@station.example>\ncontent: 3 bytes\nreceipt: -\n"))
 unfolding under_way digits
 listed_by_state = (refl, refl, refl)
 
@@ -70,7 +89,17 @@ after_a_post = record {
   inbox =
       record {
         number = 1;
-        posted = record { sender = codes "Depot"; receiver = codes "Supplier"; id = codes "<m1@x>"; content_type = codes "application/edi-x12"; content = codes "abc"; outcome = WasProcessed; how = Async (codes "http://127.0.0.1:8082/mdn"); mic = Some (record { digest = Sha1; text = codes "qZk+NkcGgWq6PiVxeFDCbJzQ2J0=" }) };
+        posted = record {
+          sender = codes "Depot";
+          receiver = codes "Supplier";
+          id = codes "<m1@x>";
+          content_type = codes "application/edi-x12";
+          content = codes "abc";
+          outcome = WasProcessed;
+          how = Async (codes "http://127.0.0.1:8082/mdn");
+          mic =
+              Some (record { digest = Sha1; text = codes "qZk+NkcGgWq6PiVxeFDCbJzQ2J0=" });
+        };
         moment = 1000;
         receipt_stage = Pending;
         tries = 0;

@@ -17,7 +17,8 @@ use Rattle.sql_tables.proofs.Inside.{fails_to_query}
 shows_keep : (old new : Connected) (sql : List ℕ) (c : Compiled) (params : Row) (rows : List Row) (r : Option Returning) → IsTrue old.in_transaction
     → ShowsRows old new sql c params rows r → KeepsCommit old new
 shows_keep old new sql c params rows None inside h = unchanged_keeps old new (inl h.3)
-shows_keep old new sql c params rows (Some what) inside h = record { was_open = λ _. h.1.shown.was_open; committed = λ _. h.1.shown.committed_is ∙ rw inside refl }
+shows_keep old new sql c params rows (Some what) inside h =
+    record { was_open = λ _. h.1.shown.was_open; committed = λ _. h.1.shown.committed_is ∙ rw inside refl }
 
 pub shown_keeps : (sql : List ℕ) (params : Row) (old new : Connected) (rows : List Row) → IsTrue old.in_transaction → Shown sql params old new rows
     → KeepsCommit old new
@@ -48,7 +49,11 @@ module _ (out old new : Connected) (same : out.now ≡ old.now) (as_open : out.i
     h.0,
     subst (λ (d : Database). IsSourceOf (reads_listing d.schema sql) d h.0) (sym same) h.1,
     h.2,
-    (record { was_open = as_open ∙ h.3.0.was_open; is_open = as_open ∙ h.3.0.was_open; now_is = refl; committed_is = refl; mode = refl }, record { changes = refl; last_rowid = refl }, refl),
+    (
+      record { was_open = as_open ∙ h.3.0.was_open; is_open = as_open ∙ h.3.0.was_open; now_is = refl; committed_is = refl; mode = refl },
+      record { changes = refl; last_rowid = refl },
+      refl,
+    ),
   )
   shows_alike c params rows (Some what) is h = absurd cc
 

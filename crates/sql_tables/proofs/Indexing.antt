@@ -14,7 +14,8 @@ use Rattle.sqlite_schema.specs.declared.schema.Index.{Index}
 use Rattle.sql_tables.specs.Changes.{AddsIndex}
 use Rattle.sql_tables.proofs.Writes.{went, same_value}
 
-module _ (text : List ℕ) (old new : State) (schema : Schema) (has : old.now.schema ≡ schema) (at : ℕ) (table : Table) (place : slice_get schema.tables at ≡ Some table)
+module _ (text : List ℕ) (old new : State) (schema : Schema) (has : old.now.schema ≡ schema) (at : ℕ) (table : Table)
+    (place : slice_get schema.tables at ≡ Some table)
     (index : Index) (defined : index_defined_by table text ≡ Ok index) (plain : IsPlain (understood schema text)) where
   pub makes_index : command_of (understood schema text) ≡ CreateIndex at → statement_of text (understood schema text) ≡ text → (count : ℕ)
       → Executes text [] old new (Ok count)
@@ -30,7 +31,8 @@ module _ (text : List ℕ) (old new : State) (schema : Schema) (has : old.now.sc
       let now : new.now ≡ all.0 = ap (λ (p : Tally × Database). p.1) (same_value all.2) in
       record {
         schema_is = ap (λ (d : Database). d.schema) now ∙ schema_is;
-        others = subst (λ (d : Database). KeepsRows schema.tables old.now.trees d.trees) (sym now) (subst (λ (s : Schema). KeepsRows s.tables old.now.trees all.0.trees) has it.rows);
+        others = subst (λ (d : Database). KeepsRows schema.tables old.now.trees d.trees) (sym now)
+            (subst (λ (s : Schema). KeepsRows s.tables old.now.trees all.0.trees) has it.rows);
         shown = w.shown;
         marks = w.marks;
       }

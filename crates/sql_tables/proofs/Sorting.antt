@@ -63,7 +63,8 @@ one_more_row rows shown c h =
       numbered = rs ++ (next, c) ∷ [];
       rows_are = ap (λ l. put_row (Int (next_rowid l) ∷ c) l) h.rows_are ∙ puts_last (pos 1) c rs (subst IsTable h.rows_are h.rise);
       rise = IsTable-put_row (Int (next_rowid rows) ∷ c) rows h.rise;
-      columns = subst (λ l. IsPermutation l (shown ++ c ∷ [])) (sym (map-append (λ (r : ℤ × Row). r.1) rs ((next, c) ∷ []))) (IsPermutation-append_left (c ∷ []) _ shown h.columns);
+      columns = subst (λ l. IsPermutation l (shown ++ c ∷ [])) (sym (map-append (λ (r : ℤ × Row). r.1) rs ((next, c) ∷ [])))
+          (IsPermutation-append_left (c ∷ []) _ shown h.columns);
     }
 
 -- the rows behind their numbers
@@ -101,7 +102,8 @@ shows_sorted tree terms project at db params rows ordered same up sure =
     let a = answered tree terms project (by_column at) (lit (Int (negsuc 0))) db params rows sure in
     let shows = λ (r : Row). output q (params ∷ r ∷ []) in
     let strict : IsAscending (λ x y. output_cmp q x y ≡ Less) (map shows ordered) =
-    ascending-map _ shows ordered (ascending_weaker _ (λ x y. output_cmp q (shows x) (shows y) ≡ Less) (λ x y less. ap (λ o. ordering_then o Equal) less) ordered up) in
+    ascending-map _ shows ordered
+    (ascending_weaker _ (λ x y. output_cmp q (shows x) (shows y) ≡ Less) (λ x y less. ap (λ o. ordering_then o Equal) less) ordered up) in
     let from = IsPermutation-trans _ _ _ (IsPermutation-sym _ _ (IsPermutation-map shows _ _ same)) a.1 in
     let is = sorted_unique (output_cmp q) (output_cmp_total q) (map shows ordered) a.0 strict from a.2 in
     a.3 ∙ ap (map (λ (o : Output). o.1)) is ∙ map-map (λ (o : Output). o.1) shows ordered
@@ -125,8 +127,12 @@ module _ {X : Type 0} (row : X → Row) where
       × (xs ≡ map (λ y. y.1) ys)
   numbered_entries rows xs h =
       let back = pull_back (λ (r : ℤ × Row). r.1) _ _ h.columns h.numbered refl in
-      let it = entries_under back.0 xs back.2 in
-      (it.0, subst (λ l. IsPermutation l (map under it.0)) (sym h.rows_are) (subst (IsPermutation (map numbered_row h.numbered)) it.1 (IsPermutation-map numbered_row _ _ back.1)), it.2)
+      let it = entries_under back.0 xs back.2 in (
+        it.0,
+        subst (λ l. IsPermutation l (map under it.0)) (sym h.rows_are)
+            (subst (IsPermutation (map numbered_row h.numbered)) it.1 (IsPermutation-map numbered_row _ _ back.1)),
+        it.2,
+      )
 
 -- the same of a table that has the rows of entries, where the statement doesn't read their numbers
 pub shows_sorted_entries : (tree : ℕ) (terms project : List Term) (at : ℕ) (db : Trees) (params : Row) (rows : List Row) {X : Type 0} (row : X → Row) (p : X
@@ -141,8 +147,10 @@ shows_sorted_entries tree terms project at db params rows {X} row p shown same s
     let picked : filter p xs ≡ map (λ (y : ℤ × X). y.1) kept = ap (filter p) it.2 ∙ filter-map p (λ (y : ℤ × X). y.1) it.0 in
     let which : chosen_rows terms params (map (under row) it.0) ≡ map (under row) kept =
     filter-map (passes terms params) (under row) it.0
-    ∙ ap (map (under row)) (filter_same (λ y. passes terms params (under row y)) hits it.0 (all_of (λ y. passes terms params (under row y) ≡ hits y) (λ y. same y.0 y.1) it.0)) in
-    let reached : IsPermutation (chosen_rows terms params (db tree)) (map (under row) kept) = subst (IsPermutation _) which (IsPermutation-filter (passes terms params) _ _ it.1) in
+    ∙ ap (map (under row)) (filter_same (λ y. passes terms params (under row y)) hits it.0
+    (all_of (λ y. passes terms params (under row y) ≡ hits y) (λ y. same y.0 y.1) it.0)) in
+    let reached : IsPermutation (chosen_rows terms params (db tree)) (map (under row) kept) =
+    subst (IsPermutation _) which (IsPermutation-filter (passes terms params) _ _ it.1) in
     let rising = ascending-map (λ (a b : Row). value_cmp (column a (suc at)) (column b (suc at)) ≡ Less) (under row) kept
     (ascending_from_map (λ (a b : X). value_cmp (column (row a) at) (column (row b) at) ≡ Less) (λ (y : ℤ × X). y.1) kept (subst (IsAscending _) picked up)) in
     shows_sorted tree terms project (suc at) db params rows (map (under row) kept) reached rising sure

@@ -17,7 +17,8 @@ pub invariant_of-result : goal.invariant_of-result
 invariant_of-result c =
     let returns : (wants_return c.in_ok-partners.partners.items && is_none c.in_ok-return_url.return_url) ≡ false =
     elim c.else-wants_return.branch [
-      | else-wants_return-via-then-wants_return+else-is_none w ↦ rw (w.is_none.ensures, w.if-is_none.false) (and-false (wants_return c.in_ok-partners.partners.items))
+      | else-wants_return-via-then-wants_return+else-is_none w ↦ rw (w.is_none.ensures, w.if-is_none.false)
+          (and-false (wants_return c.in_ok-partners.partners.items))
       | else-wants_return-via-else-wants_return w ↦ rw (← c.deref-2.ensures.value, ← w.if-wants_return.ensures) refl
     ] in
     (made_are (table_view c.args.document.now) _ (record {

@@ -6,5 +6,6 @@ use Rattle.as2_agreement.proofs.places.faulty_partner.Given as goal
 
 abbrev pub invariant-loop-entry : goal.invariant-loop-entry
 invariant-loop-entry l =
-    (first_faulty (partner l.organizations) 1 [] (items_view l.entries) ≡ first_faulty (partner l.organizations) (1 + l.entry-index) l.kept.items (items_view (drop l.entry-index l.entries)))
+    (first_faulty (partner l.organizations) 1 [] (items_view l.entries) ≡ first_faulty (partner l.organizations) (1 + l.entry-index) l.kept.items
+    (items_view (drop l.entry-index l.entries)))
     × (length l.kept.items ≡ l.entry-index)

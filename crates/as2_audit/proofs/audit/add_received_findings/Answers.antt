@@ -32,9 +32,12 @@ loop-at-preserved g c =
 
 pub returns-clause-found : goal.returns-clause-found
 returns-clause-found g c =
-    all _ _ (λ s count. (c.loop-at.findings.items ≡ c.args.findings.now.items ++ received_findings s) × (count ≡ length s.inbox)) _ _ c.args.findings.now.items c.loop-at.findings.items c.loop-at.at _ c.len-all.result (omega (arith, c.loop-at.auto.at-end, c.loop-at-test.false))
+    all _ _ (λ s count. (c.loop-at.findings.items ≡ c.args.findings.now.items ++ received_findings s)
+    × (count ≡ length s.inbox)) _ _ c.args.findings.now.items c.loop-at.findings.items c.loop-at.at _ c.len-all.result
+    (omega (arith, c.loop-at.auto.at-end, c.loop-at-test.false))
     (λ s rows is. (
       is ∙ ap (λ (l : List InRow). c.args.findings.now.items ++ flat_map (λ r. finding_at Inbox r.number (received_at s r.number)) l) rows
-          ∙ ap (λ (l : List Finding). c.args.findings.now.items ++ l) (flat_map-map (λ (r : InRow). finding_at Inbox r.number (received_at s r.number)) in_summary s.inbox),
+          ∙ ap (λ (l : List Finding). c.args.findings.now.items ++ l)
+          (flat_map-map (λ (r : InRow). finding_at Inbox r.number (received_at s r.number)) in_summary s.inbox),
       omega (arith, c.len-all.ensures, c.deref-row-items.ensures.len, ap (λ (l : List InRow). length l) rows, length-map s.inbox in_summary),
     )) c.loop-at.invariant

@@ -18,7 +18,8 @@ pub loop-at-init : goal.loop-at-init
 loop-at-init g c =
     begun _ _ (λ s rows. (is_migrated s ≡ not (c.in_ok-origin.origin == 0)) × (rows.items ≡ listed_rows None s)) _ _ c.in_ok-rows.rows _ _
     (λ s rests is. (is.0, c.deref-row-items.ensures.value ∙ is.1 ∙ ap (map out_summary) (all_listed s.outbox)))
-    (read_then (λ s n. n ≡ origin_of s.version) (λ s rows. rows.items ≡ listed_rows None s) _ _ _ _ _ _ (λ s rows rests first then. (ap (λ (n : ℕ). not (n == 0)) (sym first), then)) c.in_ok-origin.ensures.origin c.in_ok-rows.ensures.documents)
+    (read_then (λ s n. n ≡ origin_of s.version) (λ s rows. rows.items ≡ listed_rows None s) _ _ _ _ _ _
+    (λ s rows rests first then. (ap (λ (n : ℕ). not (n == 0)) (sym first), then)) c.in_ok-origin.ensures.origin c.in_ok-rows.ensures.documents)
 
 pub returns-in_err-fault-clause-found : goal.returns-in_err-fault-clause-found
 returns-in_err-fault-clause-found g c =
@@ -32,7 +33,8 @@ returns-in_err-add-clause-found g c =
 
 pub loop-at-preserved : goal.loop-at-preserved
 loop-at-preserved g c =
-    one_more _ _ (λ s fault. is_migrated s ≡ not (c.in_ok-origin.origin == 0) → fault ≡ sent_at s c.row-item.result.number) _ _ _ _ _ _ c.loop-at.at _ c.row-item.result c.in_ok-fault.fault c.loop-at-test.true
+    one_more _ _ (λ s fault. is_migrated s ≡ not (c.in_ok-origin.origin == 0)
+    → fault ≡ sent_at s c.row-item.result.number) _ _ _ _ _ _ c.loop-at.at _ c.row-item.result c.in_ok-fault.fault c.loop-at-test.true
     (λ s rows is. c.in_ok-add.ensures.found
     ∙ ap (λ (f : Option Fault). c.loop-at.findings.items ++ finding_at Outbox c.row-item.result.number f) (is rows.0)
     ∙ ap (λ (r : OutRow). c.loop-at.findings.items ++ finding_at Outbox r.number (sent_at s r.number)) c.row-item.is)
@@ -40,10 +42,12 @@ loop-at-preserved g c =
 
 pub returns-clause-found : goal.returns-clause-found
 returns-clause-found g c =
-    all _ _ (λ s count. (c.loop-at.findings.items ≡ c.args.findings.now.items ++ sent_findings s) × (count ≡ length s.outbox)) _ _ c.args.findings.now.items c.loop-at.findings.items c.loop-at.at _ c.len-all.result
+    all _ _ (λ s count. (c.loop-at.findings.items ≡ c.args.findings.now.items ++ sent_findings s)
+    × (count ≡ length s.outbox)) _ _ c.args.findings.now.items c.loop-at.findings.items c.loop-at.at _ c.len-all.result
     (omega (arith, c.loop-at.auto.at-end, c.loop-at-test.false))
     (λ s rows is. (
       is ∙ ap (λ (l : List OutRow). c.args.findings.now.items ++ flat_map (λ r. finding_at Outbox r.number (sent_at s r.number)) l) rows.1
-          ∙ ap (λ (l : List Finding). c.args.findings.now.items ++ l) (flat_map-map (λ (r : OutRow). finding_at Outbox r.number (sent_at s r.number)) out_summary s.outbox),
+          ∙ ap (λ (l : List Finding). c.args.findings.now.items ++ l)
+          (flat_map-map (λ (r : OutRow). finding_at Outbox r.number (sent_at s r.number)) out_summary s.outbox),
       omega (arith, c.len-all.ensures, c.deref-row-items.ensures.len, ap (λ (l : List OutRow). length l) rows.1, length-map s.outbox out_summary),
     )) c.loop-at.invariant

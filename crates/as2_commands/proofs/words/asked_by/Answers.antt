@@ -9,6 +9,7 @@ use Rattle.as2_commands.proofs.words.asked_by.Goals as goal
 pub returns-clause-none : goal.returns-clause-none
 returns-clause-none c = λ known path store task gives.
     let found = c.in_ok-found.ensures.found in
-    let named = subst (λ (o : Option (Text × List Row)). Give (option_values (texts c.args.words.now)) o c.args.clock path store task) (sym found.2) gives.given in
+    let named = subst (λ (o : Option (Text × List Row)). Give (option_values (texts c.args.words.now)) o c.args.clock path store task)
+    (sym found.2) gives.given in
     c.in-Err.ensures.none path store task
     (subst (λ (v : List Row). Give v (subcommand_rows_of c.in_ok-found.found) c.args.clock path store task) (sym found.1) named)

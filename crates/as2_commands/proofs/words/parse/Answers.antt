@@ -32,7 +32,8 @@ returns-clause-found c =
     let is_simple = ap is_simple_and_free c.requires ∙ simple in
     subst (λ (a : App). IfOk parse.result (λ m. (fault_of a words ≡ [])
     × (rows_of (found_of m) ≡ matches_of a words) × (subcommand_rows_of m ≡ subcommand_of a words))) c.requires
-    (told (app_of c.args.command.now) words parse.result is_simple (parse.ensures.kinds is_simple) (IfOk-weaker parse.result _ _ (λ m ok. ok.2) parse.ensures.ok))
+    (told (app_of c.args.command.now) words parse.result is_simple (parse.ensures.kinds is_simple)
+    (IfOk-weaker parse.result _ _ (λ m ok. ok.2) parse.ensures.ok))
 
 pub returns-clause-fault : goal.returns-clause-fault
 returns-clause-fault c =

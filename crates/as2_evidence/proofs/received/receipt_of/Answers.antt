@@ -5,4 +5,5 @@ use Rattle.as2_evidence.proofs.received.receipt_of.Goals as goal
 
 pub returns : goal.returns
 unfolding receipt_bytes
-returns c = IfOk-weaker c.in_pieces.result _ _ (λ bytes is. is ∙ c.deref.ensures.value ∙ c.in_ok-text.ensures.text ∙ ap receipt_bytes c.in_ok-out.ensures) c.in_pieces.ensures
+returns c = IfOk-weaker c.in_pieces.result _ _
+    (λ bytes is. is ∙ c.deref.ensures.value ∙ c.in_ok-text.ensures.text ∙ ap receipt_bytes c.in_ok-out.ensures) c.in_pieces.ensures

@@ -7,7 +7,8 @@ use Rattle.as2_framing.proofs.chunk_line.read_line.Goals as goal
 pub returns-in-Ok-Complete : goal.returns-in-Ok-Complete
 returns-in-Ok-Complete c =
     let t = c.args.text.now in
-    let at = told_complete c.in-Ok-Complete.field-0 c.in-Ok-Complete.length c.in-Ok-Complete.size (λ (r : ℕ × ℕ). (l : ChunkLine) × IsChunkLineAt t r.0 r.1 l) c.in-Ok-Complete.field-0-is c.in-Ok-Complete.ensures.complete in
+    let at = told_complete c.in-Ok-Complete.field-0 c.in-Ok-Complete.length c.in-Ok-Complete.size
+    (λ (r : ℕ × ℕ). (l : ChunkLine) × IsChunkLineAt t r.0 r.1 l) c.in-Ok-Complete.field-0-is c.in-Ok-Complete.ensures.complete in
     line_found t c.in-Ok-Complete.length c.in-Ok-Complete.size at.0 at.1 c.requires
 
 pub returns-in-Ok-Partial : goal.returns-in-Ok-Partial

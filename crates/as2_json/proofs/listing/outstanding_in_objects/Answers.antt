@@ -9,5 +9,6 @@ pub returns-clause-outstanding : goal.returns-clause-outstanding
 returns-clause-outstanding g c =
     let m = c.args.moment in
     read_then _ _ (λ s text. text.items ≡ object_lines (outstanding_objects s m)) _ _ _ c.in_ok-counts.counts c.with_outstanding.result
-    (λ s text rests counts told. told ∙ ap (λ t. t ++ object_lines (map entry_object (outstanding_documents s m))) (c.in_ok-text.ensures.line ∙ ap (λ n. object_line (counts_object n)) counts))
+    (λ s text rests counts told. told
+    ∙ ap (λ t. t ++ object_lines (map entry_object (outstanding_documents s m))) (c.in_ok-text.ensures.line ∙ ap (λ n. object_line (counts_object n)) counts))
     c.in_ok-counts.ensures.counts c.with_outstanding.ensures.listed

@@ -6,4 +6,5 @@ use Rattle.as2_json.proofs.listing.show_in_objects.Goals as goal
 
 pub returns-in_ok-document_object-in-Some-clause-shown : goal.returns-in_ok-document_object-in-Some-clause-shown
 returns-in_ok-document_object-in-Some-clause-shown g c =
-    read_ok _ _ _ _ _ _ (λ s rests found. ap Some c.in_ok-document_object-in-Some.ensures.line ∙ ap (λ d. option_map object_line (option_map document_object d)) (sym c.in-Some.is ∙ found)) c.in_ok-document.ensures.found
+    read_ok _ _ _ _ _ _ (λ s rests found. ap Some c.in_ok-document_object-in-Some.ensures.line
+    ∙ ap (λ d. option_map object_line (option_map document_object d)) (sym c.in-Some.is ∙ found)) c.in_ok-document.ensures.found

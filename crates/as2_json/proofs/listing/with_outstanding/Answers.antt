@@ -10,5 +10,6 @@ pub returns-clause-listed : goal.returns-clause-listed
 returns-clause-listed g c =
     let m = c.args.moment in
     read_then _ _ (λ s made. HasOutstanding s m c.args.text.items made.items) _ _ _ c.in_ok-rows.rows c.with_rows.result
-    (λ s made rests rows told. told (λ d. is_under_way d.detail && is_due m d.due) (kept_of_all s m _ _ _ rows c.keep_outstanding.ensures c.as_slice.ensures.value))
+    (λ s made rests rows told. told (λ d. is_under_way d.detail && is_due m d.due)
+    (kept_of_all s m _ _ _ rows c.keep_outstanding.ensures c.as_slice.ensures.value))
     c.in_ok-rows.ensures.documents c.with_rows.ensures.listed

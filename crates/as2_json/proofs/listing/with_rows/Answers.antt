@@ -11,4 +11,6 @@ returns-clause-listed g c =
     let text = c.args.text.items in
     let made = c.add_out_objects.new.text in
     reads_standing (λ s t. IsCounted s → Continues s rows text t.items) _ _ _ (Ok made) (λ s t stands told. told stands)
-    (read_ok _ _ _ _ c.in_ok-settled.settled made (λ s rests numbers stands. continued s _ rows text made.items stands (c.as_slice.ensures.value ∙ numbers) c.in_ok-add_out_objects.ensures) c.in_ok-settled.ensures.numbers)
+    (read_ok _ _ _ _ c.in_ok-settled.settled made
+    (λ s rests numbers stands. continued s _ rows text made.items stands
+    (c.as_slice.ensures.value ∙ numbers) c.in_ok-add_out_objects.ensures) c.in_ok-settled.ensures.numbers)

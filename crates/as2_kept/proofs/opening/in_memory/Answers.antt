@@ -15,5 +15,6 @@ pub returns-in-Ok-create-clause-fresh : goal.returns-in-Ok-create-clause-fresh
 returns-in-Ok-create-clause-fresh c =
     let is = c.in-Ok.ensures.empty in
     let records = c.in-Ok-create.records in
-    let reached = c.in-Ok-create.ensures.created.done (memory_is_clean records) (record { autocommit = is.0.autocommit; no_table = λ _. is.2; committed = λ _. sym is.0.clean }) in
+    let reached = c.in-Ok-create.ensures.created.done (memory_is_clean records)
+    (record { autocommit = is.0.autocommit; no_table = λ _. is.2; committed = λ _. sym is.0.clean }) in
     subst (λ (s : State). Rests (state over_memory records) s) (sym (some_is (empty_store c.args.first) reached.state reached.is)) reached.rests

@@ -18,9 +18,11 @@ loop-entry-preserved c =
     elim c.if-entry-number.branch [
       | then-entry-number w ↦
           w.entry-items-is
-          ∙ one_changed (λ (e : InEntry). e.number) n change xs ys i x w.set.new.entry within c.loop-entry.invariant c.entry-item.is (here ∙ w.if-entry-number.true)
+          ∙ one_changed (λ (e : InEntry). e.number) n change xs ys i x w.set.new.entry within c.loop-entry.invariant c.entry-item.is
+          (here ∙ w.if-entry-number.true)
           (w.set.ensures ∙ ap change (sym c.entry-item.is))
       | else-entry-number w ↦
           w.entry-items-is
-          ∙ one_left (λ (e : InEntry). e.number) n change xs ys i x within c.loop-entry.invariant c.entry-item.is (λ is. w.if-entry-number.false (sym here ∙ is))
+          ∙ one_left (λ (e : InEntry). e.number) n change xs ys i x within c.loop-entry.invariant c.entry-item.is
+          (λ is. w.if-entry-number.false (sym here ∙ is))
     ]

@@ -18,9 +18,11 @@ loop-document-preserved c =
     elim c.if-document-number.branch [
       | then-document-number w ↦
           w.document-items-is
-          ∙ one_changed (λ (d : OutEntry). d.number) n change xs ys i x w.set.new.document within c.loop-document.invariant c.document-item.is (here ∙ w.if-document-number.true)
+          ∙ one_changed (λ (d : OutEntry). d.number) n change xs ys i x w.set.new.document within c.loop-document.invariant c.document-item.is
+          (here ∙ w.if-document-number.true)
           (w.set.ensures ∙ ap change (sym c.document-item.is))
       | else-document-number w ↦
           w.document-items-is
-          ∙ one_left (λ (d : OutEntry). d.number) n change xs ys i x within c.loop-document.invariant c.document-item.is (λ is. w.if-document-number.false (sym here ∙ is))
+          ∙ one_left (λ (d : OutEntry). d.number) n change xs ys i x within c.loop-document.invariant c.document-item.is
+          (λ is. w.if-document-number.false (sym here ∙ is))
     ]

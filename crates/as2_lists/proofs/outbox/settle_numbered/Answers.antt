@@ -13,7 +13,8 @@ returns-in-Some c = λ distinct.
     let change = settled_as c.args.detail c.args.evidence in
     let test = λ (d : OutEntry). d.number == n in
     let found : position test ds ≡ Some i = ap (position test) (sym c.deref.ensures.value) ∙ sym c.place_of.ensures ∙ c.in-Some.is in
-    ap (set ds i) (c.settle.ensures ∙ ap change c.index_mut.ensures.value) ∙ changed_at (λ (d : OutEntry). d.number) n change ds i c.index_mut.result.now distinct found
+    ap (set ds i) (c.settle.ensures ∙ ap change c.index_mut.ensures.value)
+    ∙ changed_at (λ (d : OutEntry). d.number) n change ds i c.index_mut.result.now distinct found
 
 pub returns-in_default : goal.returns-in_default
 returns-in_default c = λ distinct.

@@ -17,4 +17,6 @@ loop-i-preserved c =
     ]) c.loop-i.invariant)
 
 pub returns : goal.returns
-returns c = scan_all c.loop-i.place c.args.text.now (subst (Cuts (segments Outside c.args.text.now) (segments c.loop-i.place) c.args.text.now) (omega (arith, c.loop-i-test.false, c.loop-i.auto.i-end)) c.loop-i.invariant)
+returns c = scan_all c.loop-i.place c.args.text.now
+    (subst (Cuts (segments Outside c.args.text.now) (segments c.loop-i.place) c.args.text.now)
+    (omega (arith, c.loop-i-test.false, c.loop-i.auto.i-end)) c.loop-i.invariant)

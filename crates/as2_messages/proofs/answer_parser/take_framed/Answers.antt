@@ -11,8 +11,18 @@ returns-in-Whole c = λ text awaits. feeds_answer c.args.answer _ c.args.missing
 pub returns-in-Bad : goal.returns-in-Bad
 returns-in-Bad c = λ text awaits.
     elim c.in-Bad.is [
-      | inl bad ↦ feeds_answer c.args.answer (record { status = c.args.answer.status; fields = c.args.answer.fields; body = c.feed.new.body }) c.args.missing c.feed.new.self text c.args.bytes.now c.in_ok-feed.field-0 _ bad refl refl
+      | inl bad ↦ feeds_answer c.args.answer
+          (record {
+            status = c.args.answer.status;
+            fields = c.args.answer.fields;
+            body = c.feed.new.body;
+          }) c.args.missing c.feed.new.self text c.args.bytes.now c.in_ok-feed.field-0 _ bad refl refl
           c.in_ok-feed.ensures.fed awaits
-      | inr large ↦ feeds_answer c.args.answer (record { status = c.args.answer.status; fields = c.args.answer.fields; body = c.feed.new.body }) c.args.missing c.feed.new.self text c.args.bytes.now c.in_ok-feed.field-0 _ large refl refl
+      | inr large ↦ feeds_answer c.args.answer
+          (record {
+            status = c.args.answer.status;
+            fields = c.args.answer.fields;
+            body = c.feed.new.body;
+          }) c.args.missing c.feed.new.self text c.args.bytes.now c.in_ok-feed.field-0 _ large refl refl
           c.in_ok-feed.ensures.fed awaits
     ]

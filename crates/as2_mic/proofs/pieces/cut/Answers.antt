@@ -16,10 +16,12 @@ returns c =
     elim c.if-whole-len.branch [
       | then-whole-len w ↦
           let inside : at < length full = search rules in
-          let first : c.if-whole-len.full.items ≡ take at full = rw w.full-is (w.truncate.ensures.items ∙ ap (take at) w.remove.ensures.items ∙ take_removed full at inside) in
+          let first : c.if-whole-len.full.items ≡ take at full =
+          rw w.full-is (w.truncate.ensures.items ∙ ap (take at) w.remove.ensures.items ∙ take_removed full at inside) in
           let rest : c.truncate-2.new.self.items ≡ take (n - at * 65536) (bytes w.remove.result) = c.truncate-2.ensures.items ∙ rw w.last-is refl in
           let piece : bytes w.remove.result ≡ bytes (slice_index_or full at w.remove.result) = ap bytes w.remove.ensures.value in
-          kept_along bytes _ _ _ _ _ first (rest ∙ ap (take (n - at * 65536)) piece) (cut_piece bytes full last n at w.remove.result c.requires.whole c.requires.within is inside)
+          kept_along bytes _ _ _ _ _ first (rest ∙ ap (take (n - at * 65536)) piece)
+          (cut_piece bytes full last n at w.remove.result c.requires.whole c.requires.within is inside)
       | else-whole-len w ↦
           let outside : length full ≤ at = search rules in
           let first : c.if-whole-len.full.items ≡ full = rw w.full-is refl in

@@ -7,4 +7,5 @@ use Rattle.as2_names.proofs.head.any_lists.Given as goal
 
 abbrev pub invariant-loop-field : goal.invariant-loop-field
 invariant-loop-field l =
-    list_any (lists l.option) (values (str_to_ascii_lowercase l.name) l.fields) ≡ list_any (lists l.option) (values (str_to_ascii_lowercase l.name) (drop l.field-index l.fields))
+    list_any (lists l.option) (values (str_to_ascii_lowercase l.name) l.fields) ≡ list_any (lists l.option)
+    (values (str_to_ascii_lowercase l.name) (drop l.field-index l.fields))

@@ -7,6 +7,7 @@ use Rattle.as2_names.proofs.head.told.Given as goal
 
 abbrev pub invariant-loop-field : goal.invariant-loop-field
 invariant-loop-field l = record {
-  met : values (str_to_ascii_lowercase l.name) l.fields ≡ option_to_list (option_map (λ v. v.now) l.found) ++ values (str_to_ascii_lowercase l.name) (drop l.field-index l.fields);
+  met : values (str_to_ascii_lowercase l.name) l.fields ≡ option_to_list (option_map (λ v. v.now) l.found)
+      ++ values (str_to_ascii_lowercase l.name) (drop l.field-index l.fields);
   bare : IfSome l.found (λ v. without_blanks v.now ≡ v.now);
 }

@@ -9,7 +9,8 @@ pub loop-i-preserved : goal.loop-i-preserved
 loop-i-preserved c =
     elim c.else-b-eq10.branch [
       | else-b-eq10-via-then-b-eq10+else-not-begins_with_blank w ↦
-          folded_on c.args.text.now c.loop-i.i c.loop-i-test.true (no_cut_before_blank c.args.text.now c.loop-i.i (sym w.begins_with_blank.ensures ∙ w.if-not-begins_with_blank.false)) c.loop-i.invariant
+          folded_on c.args.text.now c.loop-i.i c.loop-i-test.true
+          (no_cut_before_blank c.args.text.now c.loop-i.i (sym w.begins_with_blank.ensures ∙ w.if-not-begins_with_blank.false)) c.loop-i.invariant
       | else-b-eq10-via-else-b-eq10 w ↦
           folded_on c.args.text.now c.loop-i.i c.loop-i-test.true (no_cut_elsewhere c.args.text.now c.loop-i.i w.if-b-eq10.false) c.loop-i.invariant
     ]
@@ -20,4 +21,7 @@ returns-then-not-begins_with_blank-clause-first c =
     rw (c.split_at.ensures.front, c.split_at.ensures.back) (folded_cut c.args.text.now c.loop-i.i c.loop-i-test.true cut c.loop-i.invariant)
 
 pub returns-clause-first : goal.returns-clause-first
-returns-clause-first c = rw (c.split_at-2.ensures.front, c.split_at-2.ensures.back) (cuts_end (folded_lines c.args.text.now) folded_lines c.args.text.now refl c.requires (subst (Cuts (folded_lines c.args.text.now) folded_lines c.args.text.now) (omega (arith, c.loop-i-test.false, c.loop-i.auto.i-end)) c.loop-i.invariant))
+returns-clause-first c =
+    rw (c.split_at-2.ensures.front, c.split_at-2.ensures.back)
+    (cuts_end (folded_lines c.args.text.now) folded_lines c.args.text.now refl c.requires
+    (subst (Cuts (folded_lines c.args.text.now) folded_lines c.args.text.now) (omega (arith, c.loop-i-test.false, c.loop-i.auto.i-end)) c.loop-i.invariant))

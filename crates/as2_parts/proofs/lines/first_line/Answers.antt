@@ -8,7 +8,11 @@ pub loop-i-preserved : goal.loop-i-preserved
 loop-i-preserved c = lines_on c.args.text.now c.loop-i.i c.loop-i-test.true c.if-b-eq10.false c.loop-i.invariant
 
 pub returns-then-b-eq10-clause-first : goal.returns-then-b-eq10-clause-first
-returns-then-b-eq10-clause-first c = rw (c.split_at.ensures.front, c.split_at.ensures.back) (lines_cut c.args.text.now c.loop-i.i c.loop-i-test.true c.if-b-eq10.true c.loop-i.invariant)
+returns-then-b-eq10-clause-first c =
+    rw (c.split_at.ensures.front, c.split_at.ensures.back) (lines_cut c.args.text.now c.loop-i.i c.loop-i-test.true c.if-b-eq10.true c.loop-i.invariant)
 
 pub returns-clause-first : goal.returns-clause-first
-returns-clause-first c = rw (c.split_at-2.ensures.front, c.split_at-2.ensures.back) (cuts_end (lines c.args.text.now) lines c.args.text.now refl c.requires (subst (Cuts (lines c.args.text.now) lines c.args.text.now) (omega (arith, c.loop-i-test.false, c.loop-i.auto.i-end)) c.loop-i.invariant))
+returns-clause-first c =
+    rw (c.split_at-2.ensures.front, c.split_at-2.ensures.back)
+    (cuts_end (lines c.args.text.now) lines c.args.text.now refl c.requires
+    (subst (Cuts (lines c.args.text.now) lines c.args.text.now) (omega (arith, c.loop-i-test.false, c.loop-i.auto.i-end)) c.loop-i.invariant))

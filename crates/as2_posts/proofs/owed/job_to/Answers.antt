@@ -10,5 +10,9 @@ returns c =
     let head = ap₂ head_fields_of c.in_ok-out.ensures (ap length report) in
     let opened = c.in_ok-add_opening.ensures ∙ ap (λ (l : List ℕ). l ++ request_opening c.args.url.now) c.in_ok-bytes.ensures.items in
     let headed = c.in_ok-write_head_fields.ensures.added ∙ ap₂ (λ (l h : List ℕ). l ++ h) opened head in
-    let bytes = c.of.ensures ∙ c.in_ok-add_text-2.ensures ∙ ap₂ (λ (l r : List ℕ). l ++ r) (c.in_ok-add_text.ensures ∙ ap (λ (l : List ℕ). l ++ codes "\r\n") headed) report in
-    record { job = ap₂ (λ (authority bytes : List ℕ). let job : Job = record { authority = authority; bytes = bytes } in job) (c.in_ok-keep.ensures ∙ c.authority.ensures) bytes }
+    let bytes = c.of.ensures ∙ c.in_ok-add_text-2.ensures
+    ∙ ap₂ (λ (l r : List ℕ). l ++ r) (c.in_ok-add_text.ensures ∙ ap (λ (l : List ℕ). l ++ codes "\r\n") headed) report in
+    record {
+      job = ap₂ (λ (authority bytes : List ℕ). let job : Job = record { authority = authority; bytes = bytes } in job)
+          (c.in_ok-keep.ensures ∙ c.authority.ensures) bytes;
+    }

@@ -14,6 +14,9 @@ returns-in-Some g c = record {
       let d = c.in-Some.document in
       after_read _ _ _ _ _ (λ s. document s n ≡ Some d) _ _ _ _ _ (λ s known found. sym found ∙ c.in-Some.is) c.in_ok-document.ensures.found
       (as_machine _ _ _ _ _ _ _ _ _ c.in_ok-document.ensures.found.is_open (λ s stands found.
-      let own = numbered (λ (x : OutEntry). x.number) n s.outbox d found in
-      (subst (λ k. document s k ≡ Some d) (sym own) found, ap (λ k. Some (on_document s k (closed_document c.args.terms.now.agreements.now AllDigests c.args.answer c.args.terms.now.moment))) own)) c.close_found.ensures.taken);
+      let own = numbered (λ (x : OutEntry). x.number) n s.outbox d found in (
+        subst (λ k. document s k ≡ Some d) (sym own) found,
+        ap (λ k. Some (on_document s k
+            (closed_document c.args.terms.now.agreements.now AllDigests c.args.answer c.args.terms.now.moment))) own,
+      )) c.close_found.ensures.taken);
 }

@@ -11,7 +11,8 @@ returns-in-Err g c = record {
   taken =
       let e = c.args.entry.now in
       over_open _ _ _ _ _ _ c.requires.open
-      (λ clean s stands found. ap Some (leaves_in s e stands found _ _ (not_agreed_then c.args.agreements.now c.args.answer.now c.args.moment e c.in-Err.reason c.in-Err.ensures.refused)));
+      (λ clean s stands found. ap Some
+      (leaves_in s e stands found _ _ (not_agreed_then c.args.agreements.now c.args.answer.now c.args.moment e c.in-Err.reason c.in-Err.ensures.refused)));
 }
 
 pub returns-then-not-is_pending : goal.returns-then-not-is_pending
@@ -19,7 +20,9 @@ returns-then-not-is_pending g c = record {
   taken =
       let e = c.args.entry.now in
       over_open _ _ _ _ _ _ c.requires.open
-      (λ clean s stands found. ap Some (leaves_in s e stands found _ _ (sent_before c.args.agreements.now c.args.answer.now c.args.moment e c.in-Ok.partner.now c.in-Ok.ensures.agreed (sym c.if-not-is_pending.ensures))));
+      (λ clean s stands found. ap Some
+      (leaves_in s e stands found _ _
+      (sent_before c.args.agreements.now c.args.answer.now c.args.moment e c.in-Ok.partner.now c.in-Ok.ensures.agreed (sym c.if-not-is_pending.ensures))));
 }
 
 pub returns-then-is_shut : goal.returns-then-is_shut
@@ -27,7 +30,10 @@ returns-then-is_shut g c = record {
   taken =
       let e = c.args.entry.now in
       over_open _ _ _ _ _ _ c.requires.open
-      (λ clean s stands found. ap Some (leaves_in s e stands found _ _ (no_open_try c.args.agreements.now c.args.answer.now c.args.moment e c.in-Ok.partner.now c.in-Ok.ensures.agreed (sym c.if-not-is_pending.ensures) (sym c.if-is_shut.ensures))));
+      (λ clean s stands found. ap Some
+      (leaves_in s e stands found _ _
+      (no_open_try c.args.agreements.now c.args.answer.now c.args.moment e c.in-Ok.partner.now c.in-Ok.ensures.agreed
+      (sym c.if-not-is_pending.ensures) (sym c.if-is_shut.ensures))));
 }
 
 pub returns-in_err-set_receipt : goal.returns-in_err-set_receipt
@@ -38,7 +44,8 @@ returns-in_err-set_receipt g c = record {
       let got = c.args.answer.now in
       passed_on _ _ _ _ _ _ _ _ c.from_residual.ensures.0 c.from_residual.ensures.1
       (unwritten _ _ _ _ _ _ _ _ (end_answer (is_delivery got))
-      (λ s t stands found is counter. ends_receipt A got c.args.moment s t e c.in-Ok.partner.now stands found c.in-Ok.ensures.agreed (sym c.if-not-is_pending.ensures) (sym c.if-is_shut.ensures) (rw (c.after_try.ensures, c.is_delivery-delivered.ensures) at is))
+      (λ s t stands found is counter. ends_receipt A got c.args.moment s t e c.in-Ok.partner.now stands found c.in-Ok.ensures.agreed
+      (sym c.if-not-is_pending.ensures) (sym c.if-is_shut.ensures) (rw (c.after_try.ensures, c.is_delivery-delivered.ensures) at is))
       (inr c.in_err-set_receipt.ensures.fault) (λ s found full. never_full _ c.in_err-set_receipt.ensures.fault full) c.in_err-set_receipt.ensures.set);
 }
 
@@ -49,6 +56,8 @@ returns g c = record {
       let e = c.args.entry.now in
       let got = c.args.answer.now in
       written _ _ _ _ _ _ _ _ _
-      (λ s t stands found is counter. rw (c.end_became.ensures, c.is_delivery-delivered.ensures) (ends_receipt A got c.args.moment s t e c.in-Ok.partner.now stands found c.in-Ok.ensures.agreed (sym c.if-not-is_pending.ensures) (sym c.if-is_shut.ensures) (rw (c.after_try.ensures, c.is_delivery-delivered.ensures) at is)))
+      (λ s t stands found is counter. rw (c.end_became.ensures, c.is_delivery-delivered.ensures)
+      (ends_receipt A got c.args.moment s t e c.in-Ok.partner.now stands found c.in-Ok.ensures.agreed (sym c.if-not-is_pending.ensures)
+      (sym c.if-is_shut.ensures) (rw (c.after_try.ensures, c.is_delivery-delivered.ensures) at is)))
       c.in_ok-set_receipt.ensures.set;
 }

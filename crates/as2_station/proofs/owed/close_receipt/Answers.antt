@@ -14,6 +14,9 @@ returns-in-Some g c = record {
       let e = c.in-Some.entry in
       after_read _ _ _ _ _ (λ s. received_entry s n ≡ Some e) _ _ _ _ _ (λ s known found. sym found ∙ c.in-Some.is) c.in_ok-entry.ensures.found
       (as_machine _ _ _ _ _ _ _ _ _ c.in_ok-entry.ensures.found.is_open (λ s stands found.
-      let own = numbered (λ (x : InEntry). x.number) n s.inbox e found in
-      (subst (λ k. received_entry s k ≡ Some e) (sym own) found, ap (λ k. Some (on_received s k (closed_receipt c.args.terms.now.agreements.now c.args.answer c.args.terms.now.moment))) own)) c.close_found.ensures.taken);
+      let own = numbered (λ (x : InEntry). x.number) n s.inbox e found in (
+        subst (λ k. received_entry s k ≡ Some e) (sym own) found,
+        ap (λ k. Some (on_received s k
+            (closed_receipt c.args.terms.now.agreements.now c.args.answer c.args.terms.now.moment))) own,
+      )) c.close_found.ensures.taken);
 }

@@ -13,15 +13,19 @@ use Rattle.as2_station.proofs.recording.record.Goals as goal
 pub returns-in-Some-clause-taken : goal.returns-in-Some-clause-taken
 unfolding value_of
 returns-in-Some-clause-taken g c =
-    after_read _ _ _ _ _ _ _ _ _ _ _ (λ s known found. sym (rw c.value.ensures at found) ∙ c.in-Some.is) c.in_ok-found.ensures.found c.record_again.ensures.taken
+    after_read _ _ _ _ _ _ _ _ _ _ _
+    (λ s known found. sym (rw c.value.ensures at found) ∙ c.in-Some.is) c.in_ok-found.ensures.found c.record_again.ensures.taken
 
 pub returns-in-None-clause-taken : goal.returns-in-None-clause-taken
 unfolding value_of
 returns-in-None-clause-taken g c =
-    after_read _ _ _ _ _ _ _ _ _ _ _ (λ s known found. sym (rw c.value.ensures at found) ∙ c.in-None.is) c.in_ok-found.ensures.found c.record_first.ensures.taken
+    after_read _ _ _ _ _ _ _ _ _ _ _
+    (λ s known found. sym (rw c.value.ensures at found) ∙ c.in-None.is) c.in_ok-found.ensures.found c.record_first.ensures.taken
 
 pub returns-in_err-found-clause-taken : goal.returns-in_err-found-clause-taken
-returns-in_err-found-clause-taken g c = passed_on _ _ _ _ _ _ _ _ c.from_residual.ensures.0 c.from_residual.ensures.1 (unread _ _ _ _ _ _ _ _ c.in_err-found.ensures.found c.in_err-found.ensures.fault)
+returns-in_err-found-clause-taken g c =
+    passed_on _ _ _ _ _ _ _ _ c.from_residual.ensures.0 c.from_residual.ensures.1
+    (unread _ _ _ _ _ _ _ _ c.in_err-found.ensures.found c.in_err-found.ensures.fault)
 
 pub returns-in-Some-clause-whole : goal.returns-in-Some-clause-whole
 unfolding value_of
@@ -34,4 +38,6 @@ returns-in-Some-clause-whole g c = λ clean. where_ok c.record_again.result _ (�
     subst (λ (e : InEntry). has_kept_mic e.posted ≡ true) same (c.record_again.ensures.whole refuses))
 
 pub returns-in-None-clause-whole : goal.returns-in-None-clause-whole
-returns-in-None-clause-whole g c = λ clean. where_ok c.record_first.result _ (λ a is conflict. absurd (c.record_first.ensures.own (is ∙ (let whose : a ≡ refusal IdUsedBefore = cc in ap Ok whose))))
+returns-in-None-clause-whole g c =
+    λ clean. where_ok c.record_first.result _
+    (λ a is conflict. absurd (c.record_first.ensures.own (is ∙ (let whose : a ≡ refusal IdUsedBefore = cc in ap Ok whose))))

@@ -10,7 +10,8 @@ returns-in-Some g c = record {
   taken =
       let d = c.args.entry.now in
       over_open _ _ _ _ _ _ c.requires.open
-      (λ clean s stands found. ap Some (leaves s d stands found _ _ (not_resent c.args.agreements.now c.args.moment d c.in-Some.reason (sym c.refusal_of.ensures ∙ c.in-Some.is))));
+      (λ clean s stands found. ap Some
+      (leaves s d stands found _ _ (not_resent c.args.agreements.now c.args.moment d c.in-Some.reason (sym c.refusal_of.ensures ∙ c.in-Some.is))));
 }
 
 pub returns-in_err-resend : goal.returns-in_err-resend

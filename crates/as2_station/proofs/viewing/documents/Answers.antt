@@ -14,6 +14,8 @@ returns-in_err-settled-clause-marked g c =
 pub returns-clause-marked : goal.returns-clause-marked
 returns-clause-marked g c =
     let both : State → Marked → Type 0 = λ s m. (m.rows.items ≡ listed_rows c.args.wanted s) × (m.settled.items ≡ settled_numbers s) in
-    let second : State → Marked → Type 0 = λ s m. c.in_ok-rows.rows.items ≡ listed_rows c.args.wanted s → (m.rows.items ≡ listed_rows c.args.wanted s) × (m.settled.items ≡ settled_numbers s) in
+    let second : State → Marked → Type 0 = λ s m. c.in_ok-rows.rows.items ≡ listed_rows c.args.wanted s
+    → (m.rows.items ≡ listed_rows c.args.wanted s) × (m.settled.items ≡ settled_numbers s) in
     read_then _ second both _ _ _ _ _ (λ s m rests known more. more known) c.in_ok-rows.ensures.documents
-    (read_ok _ second _ _ c.in_ok-settled.settled (record { rows = c.in_ok-rows.rows; settled = c.in_ok-settled.settled }) (λ s rests numbers known. (known, numbers)) c.in_ok-settled.ensures.numbers)
+    (read_ok _ second _ _ c.in_ok-settled.settled (record { rows = c.in_ok-rows.rows; settled = c.in_ok-settled.settled })
+    (λ s rests numbers known. (known, numbers)) c.in_ok-settled.ensures.numbers)

@@ -6,7 +6,8 @@ use Rattle.as2_station.proofs.viewing.outstanding.Goals as goal
 
 pub returns-in_err-documents-clause-outstanding : goal.returns-in_err-documents-clause-outstanding
 returns-in_err-documents-clause-outstanding g c =
-    read_then _ _ (λ s text. string_bytes text ≡ outstanding_text s c.args.moment) _ _ _ _ c.from_residual-in_err-documents.result (λ s text rests known more. more) c.in_ok-counts.ensures.counts
+    read_then _ _ (λ s text. string_bytes text ≡ outstanding_text s c.args.moment) _ _ _ _ c.from_residual-in_err-documents.result
+    (λ s text rests known more. more) c.in_ok-counts.ensures.counts
     (read_bad _ (λ s text. string_bytes text ≡ outstanding_text s c.args.moment) _ _ _ c.from_residual-in_err-documents.result c.from_residual-in_err-documents.ensures.0 c.in_err-documents.ensures.marked)
 
 pub returns-clause-outstanding : goal.returns-clause-outstanding

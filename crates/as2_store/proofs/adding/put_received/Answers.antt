@@ -9,5 +9,6 @@ returns-clause-put g c clean way s it =
     let one = c.in_ok-put_in.ensures.put was_one way it.schema in
     let two = c.in_ok-put_pieces.ensures.put was_two way one.schema_is in
     let three = c.in_ok-put_in_waiting.ensures.put clean way two.schema_is in
-    entered way (state g.S.Store c.args.tx.now.conn.now) (state g.S.Store c.put_in.new.tx.conn.now) (state g.S.Store c.put_pieces.new.tx.conn.now) (state g.S.Store c.put_in_waiting.new.tx.conn.now)
+    entered way (state g.S.Store c.args.tx.now.conn.now) (state g.S.Store c.put_in.new.tx.conn.now) (state g.S.Store c.put_pieces.new.tx.conn.now)
+    (state g.S.Store c.put_in_waiting.new.tx.conn.now)
     s c.args.entry.now it c.requires.number one two three

@@ -23,59 +23,75 @@ returns-in-Err-clause-given_back g c =
     let old = c.args.conn.now in
     let begun = state g.S.Store (record old { in_transaction = true }) in
     let mid = state g.S.Store c.query_all.new.self.conn.now in
-    let inside = queried_inside (λ rows. rows.items) meta_read_text [] begun mid c.query_all.result (λ clean. refl) (rw c.transaction-tx.ensures.begun at c.query_all.ensures.ok) (rw c.transaction-tx.ensures.begun at c.query_all.ensures.err) (rw c.transaction-tx.ensures.begun at c.query_all.ensures.survives) in
+    let inside = queried_inside (λ rows. rows.items) meta_read_text [] begun mid c.query_all.result (λ clean. refl)
+    (rw c.transaction-tx.ensures.begun at c.query_all.ensures.ok) (rw c.transaction-tx.ensures.begun at c.query_all.ensures.err)
+    (rw c.transaction-tx.ensures.begun at c.query_all.ensures.survives) in
     let end = c.drop-tx.new.self.0 in
     let same : end ≡ c.conn-1.given.0 = search rules in
     subst (λ h. IsGivenBack (CommitsTables Some (state g.S.Store old)) (state g.S.Store old) (state g.S.Store h)) same
-    (gives_back g.S.Store old mid end (λ _. ⊥) _ inside c.drop-tx.ensures.survives (λ clean db none. absurd none) c.drop-tx.ensures.ended c.drop-tx.ensures.undone)
+    (gives_back g.S.Store old mid end (λ _. ⊥) _ inside c.drop-tx.ensures.survives
+    (λ clean db none. absurd none) c.drop-tx.ensures.ended c.drop-tx.ensures.undone)
 
 pub returns-in-Err-clause-reason : goal.returns-in-Err-clause-reason
 returns-in-Err-clause-reason g c clean =
     let mid = state g.S.Store c.query_all.new.self.conn.now in
     let was : HasCleanDisk mid = search rules in
-    unread_by g.S.Store c.args.conn.now mid c.in-Err.error c.unread.result (rw c.transaction-tx.ensures.begun at (c.in-Err.ensures.err was)) c.unread.ensures.outside c.unread.ensures.known
+    unread_by g.S.Store c.args.conn.now mid c.in-Err.error c.unread.result
+    (rw c.transaction-tx.ensures.begun at (c.in-Err.ensures.err was)) c.unread.ensures.outside c.unread.ensures.known
 
 pub returns-then-is_bare-clause-given_back : goal.returns-then-is_bare-clause-given_back
 returns-then-is_bare-clause-given_back g c =
     let old = c.args.conn.now in
     let begun = state g.S.Store (record old { in_transaction = true }) in
     let mid = state g.S.Store c.query_all.new.self.conn.now in
-    let inside = queried_inside (λ rows. rows.items) meta_read_text [] begun mid c.query_all.result (λ clean. refl) (rw c.transaction-tx.ensures.begun at c.query_all.ensures.ok) (rw c.transaction-tx.ensures.begun at c.query_all.ensures.err) (rw c.transaction-tx.ensures.begun at c.query_all.ensures.survives) in
+    let inside = queried_inside (λ rows. rows.items) meta_read_text [] begun mid c.query_all.result (λ clean. refl)
+    (rw c.transaction-tx.ensures.begun at c.query_all.ensures.ok) (rw c.transaction-tx.ensures.begun at c.query_all.ensures.err)
+    (rw c.transaction-tx.ensures.begun at c.query_all.ensures.survives) in
     let end = c.drop-tx-then-is_bare.new.self.0 in
     let same : end ≡ c.conn-then-is_bare-1.given.0 = search rules in
     subst (λ h. IsGivenBack (CommitsTables Some (state g.S.Store old)) (state g.S.Store old) (state g.S.Store h)) same
-    (gives_back g.S.Store old mid end (λ _. ⊥) _ inside c.drop-tx-then-is_bare.ensures.survives (λ clean db none. absurd none) c.drop-tx-then-is_bare.ensures.ended c.drop-tx-then-is_bare.ensures.undone)
+    (gives_back g.S.Store old mid end (λ _. ⊥) _ inside c.drop-tx-then-is_bare.ensures.survives
+    (λ clean db none. absurd none) c.drop-tx-then-is_bare.ensures.ended c.drop-tx-then-is_bare.ensures.undone)
 
 pub returns-in-Some-clause-given_back : goal.returns-in-Some-clause-given_back
 returns-in-Some-clause-given_back g c =
     let old = c.args.conn.now in
     let begun = state g.S.Store (record old { in_transaction = true }) in
     let mid = state g.S.Store c.query_all.new.self.conn.now in
-    let inside = queried_inside (λ rows. rows.items) meta_read_text [] begun mid c.query_all.result (λ clean. refl) (rw c.transaction-tx.ensures.begun at c.query_all.ensures.ok) (rw c.transaction-tx.ensures.begun at c.query_all.ensures.err) (rw c.transaction-tx.ensures.begun at c.query_all.ensures.survives) in
+    let inside = queried_inside (λ rows. rows.items) meta_read_text [] begun mid c.query_all.result (λ clean. refl)
+    (rw c.transaction-tx.ensures.begun at c.query_all.ensures.ok) (rw c.transaction-tx.ensures.begun at c.query_all.ensures.err)
+    (rw c.transaction-tx.ensures.begun at c.query_all.ensures.survives) in
     let end = c.drop-tx-in-Some.new.self.0 in
     let same : end ≡ c.conn-in-Some-1.given.0 = search rules in
     subst (λ h. IsGivenBack (CommitsTables Some (state g.S.Store old)) (state g.S.Store old) (state g.S.Store h)) same
-    (gives_back g.S.Store old mid end (λ _. ⊥) _ inside c.drop-tx-in-Some.ensures.survives (λ clean db none. absurd none) c.drop-tx-in-Some.ensures.ended c.drop-tx-in-Some.ensures.undone)
+    (gives_back g.S.Store old mid end (λ _. ⊥) _ inside c.drop-tx-in-Some.ensures.survives
+    (λ clean db none. absurd none) c.drop-tx-in-Some.ensures.ended c.drop-tx-in-Some.ensures.undone)
 
 pub returns-then-is_bare-clause-reason : goal.returns-then-is_bare-clause-reason
 returns-then-is_bare-clause-reason g c clean =
     let mid = state g.S.Store c.query_all.new.self.conn.now in
     let was : HasCleanDisk mid = search rules in
-    bare_by (state g.S.Store c.args.conn.now) (shown_open meta_read_text [] (state g.S.Store (record c.args.conn.now { in_transaction = true })) mid c.in-Ok.rows.items (rw c.transaction-tx.ensures.begun at (c.in-Ok.ensures.ok was)))
+    bare_by (state g.S.Store c.args.conn.now)
+    (shown_open meta_read_text [] (state g.S.Store (record c.args.conn.now { in_transaction = true })) mid c.in-Ok.rows.items
+    (rw c.transaction-tx.ensures.begun at (c.in-Ok.ensures.ok was)))
     (ap (λ (k : Schema). k.tables) (sym c.schema.ensures.value) ∙ c.if-is_bare.ensures.0 refl)
 
 pub returns-in-Some-clause-reason : goal.returns-in-Some-clause-reason
 returns-in-Some-clause-reason g c clean =
     let mid = state g.S.Store c.query_all.new.self.conn.now in
     let was : HasCleanDisk mid = search rules in
-    said_by g.S.Store c.args.conn.now mid c.in-Ok.rows.items c.in-Some.fault (rw c.transaction-tx.ensures.begun at (c.in-Ok.ensures.ok was)) (λ kind version n m is. sym c.in-Some.is ∙ c.refused.ensures kind version n m (c.deref.ensures.value ∙ is)) (λ none. let some = c.if-is_bare.ensures.1 (ap (λ (k : Schema). k.tables) c.schema.ensures.value ∙ none) in cc)
+    said_by g.S.Store c.args.conn.now mid c.in-Ok.rows.items c.in-Some.fault (rw c.transaction-tx.ensures.begun at (c.in-Ok.ensures.ok was))
+    (λ kind version n m is. sym c.in-Some.is ∙ c.refused.ensures kind version n m (c.deref.ensures.value ∙ is))
+    (λ none. let some = c.if-is_bare.ensures.1 (ap (λ (k : Schema). k.tables) c.schema.ensures.value ∙ none) in cc)
 
 pub returns-in_default-commit-clause-adopted : goal.returns-in_default-commit-clause-adopted
 returns-in_default-commit-clause-adopted g c =
     let old = c.args.conn.now in
     let begun = state g.S.Store (record old { in_transaction = true }) in
     let mid = state g.S.Store c.query_all.new.self.conn.now in
-    let inside = queried_inside (λ rows. rows.items) meta_read_text [] begun mid c.query_all.result (λ clean. refl) (rw c.transaction-tx.ensures.begun at c.query_all.ensures.ok) (rw c.transaction-tx.ensures.begun at c.query_all.ensures.err) (rw c.transaction-tx.ensures.begun at c.query_all.ensures.survives) in
+    let inside = queried_inside (λ rows. rows.items) meta_read_text [] begun mid c.query_all.result (λ clean. refl)
+    (rw c.transaction-tx.ensures.begun at c.query_all.ensures.ok) (rw c.transaction-tx.ensures.begun at c.query_all.ensures.err)
+    (rw c.transaction-tx.ensures.begun at c.query_all.ensures.survives) in
     let end = c.commit.new.self.0 in
     let same : end ≡ c.conn-2-1.given.0 = search rules in
     let rows = c.in-Ok.rows.items in
@@ -83,15 +99,20 @@ returns-in_default-commit-clause-adopted g c =
     let was : HasCleanDisk (state g.S.Store end) → HasCleanDisk mid = λ late. omega (arith, c.commit.ensures.survives.clean, late) in
     subst (λ h. Adopts (state g.S.Store old) (state g.S.Store h)) same
     (adopts g.S.Store old mid end rows {A = ℕ} {E = Error} 0
-    (commits g.S.Store old mid end Some 0 inside c.commit.ensures.survives (query_keeps g.S.Store old mid meta_read_text [] rows (λ way. meta_read_plain _ _) shown) (λ late. (c.in_default-commit.ensures.ok late).1) (λ db opened may. g.met.S.Store.settled end.store db opened may)) was shown
-    (λ kind version n m is. sym c.in_default.is ∙ c.refused.ensures kind version n m (c.deref.ensures.value ∙ is)) (λ none. let some = c.if-is_bare.ensures.1 (ap (λ (k : Schema). k.tables) c.schema.ensures.value ∙ none) in cc))
+    (commits g.S.Store old mid end Some 0 inside c.commit.ensures.survives
+    (query_keeps g.S.Store old mid meta_read_text [] rows (λ way. meta_read_plain _ _) shown) (λ late. (c.in_default-commit.ensures.ok late).1)
+    (λ db opened may. g.met.S.Store.settled end.store db opened may)) was shown
+    (λ kind version n m is. sym c.in_default.is ∙ c.refused.ensures kind version n m (c.deref.ensures.value ∙ is))
+    (λ none. let some = c.if-is_bare.ensures.1 (ap (λ (k : Schema). k.tables) c.schema.ensures.value ∙ none) in cc))
 
 pub returns-clause-given_back : goal.returns-clause-given_back
 returns-clause-given_back g c =
     let old = c.args.conn.now in
     let begun = state g.S.Store (record old { in_transaction = true }) in
     let mid = state g.S.Store c.query_all.new.self.conn.now in
-    let inside = queried_inside (λ rows. rows.items) meta_read_text [] begun mid c.query_all.result (λ clean. refl) (rw c.transaction-tx.ensures.begun at c.query_all.ensures.ok) (rw c.transaction-tx.ensures.begun at c.query_all.ensures.err) (rw c.transaction-tx.ensures.begun at c.query_all.ensures.survives) in
+    let inside = queried_inside (λ rows. rows.items) meta_read_text [] begun mid c.query_all.result (λ clean. refl)
+    (rw c.transaction-tx.ensures.begun at c.query_all.ensures.ok) (rw c.transaction-tx.ensures.begun at c.query_all.ensures.err)
+    (rw c.transaction-tx.ensures.begun at c.query_all.ensures.survives) in
     let end = c.commit.new.self.0 in
     let same : end ≡ c.conn-2-1.given.0 = search rules in
     let rows = c.in-Ok.rows.items in
@@ -99,7 +120,8 @@ returns-clause-given_back g c =
     let was : HasCleanDisk (state g.S.Store end) → HasCleanDisk mid = λ late. omega (arith, c.commit.ensures.survives.clean, late) in
     let done = query_keeps g.S.Store old mid meta_read_text [] rows (λ way. meta_read_plain _ _) shown in
     subst (λ h. IsGivenBack (CommitsTables Some (state g.S.Store old)) (state g.S.Store old) (state g.S.Store h)) same
-    (gives_back g.S.Store old mid end (λ db. db ≡ mid.now.trees) _ inside c.commit.ensures.survives (λ clean. committed_next g.S.Store old mid Some (done clean)) c.commit.ensures.ended
+    (gives_back g.S.Store old mid end (λ db. db ≡ mid.now.trees) _ inside c.commit.ensures.survives
+    (λ clean. committed_next g.S.Store old mid Some (done clean)) c.commit.ensures.ended
     (λ late. undone mid (state g.S.Store end) _ (shown_stays meta_read_text [] begun mid rows refl (shown (was late))) (c.in-Err-commit.ensures.err late)))
 
 pub returns-clause-reason : goal.returns-clause-reason

@@ -15,5 +15,6 @@ returns-clause-rows g c =
     let old = state g.S.Store c.args.conn.now in
     reads_less _ _ old (state g.S.Store c.query_all.new.conn) c.query_all.result
     (λ s rows r shown.
-    let it : Shown in_pieces_text (number_params c.args.number) old old rows.items = rw (c.params-to_sql.ensures, c.whole-number.ensures, fits_i64 c.args.number c.requires.number) at shown in
+    let it : Shown in_pieces_text (number_params c.args.number) old old rows.items =
+    rw (c.params-to_sql.ensures, c.whole-number.ensures, fits_i64 c.args.number c.requires.number) at shown in
     finds_in_pieces old old c.args.number rows.items it s r) c.query_all.ensures.shown

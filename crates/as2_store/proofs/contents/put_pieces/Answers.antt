@@ -24,5 +24,6 @@ pieces-preserved g c =
       λ clean way has.
           let before = so_far.3 (c.put_piece.ensures.within.clean clean) way has in
           subst (AppendsPieces way old new (piece_tree way c.args.mailbox)) (one_before c.args.number content i c.in-Some.piece.now it.1)
-          (appended_then way old mid new (piece_tree way c.args.mailbox) (pieces_before c.args.number content i) (p ∷ []) before (c.in_ok-put_piece.ensures.put clean way before.schema_is)),
+          (appended_then way old mid new (piece_tree way c.args.mailbox) (pieces_before c.args.number content i) (p ∷ []) before
+          (c.in_ok-put_piece.ensures.put clean way before.schema_is)),
     )

@@ -15,7 +15,8 @@ invariant-pieces g l =
     (l.tx.conn.ghost_name ≡ l.fn.tx.conn.ghost_name)
     × (l.i * piece_size < length l.content + piece_size)
     × IsInside old now
-    × (HasCleanDisk now → (way : Way) → old.now.schema ≡ store_schema way → AppendsPieces way old now (piece_tree way l.mailbox) (pieces_before l.number l.content l.i))
+    × (HasCleanDisk now → (way : Way) → old.now.schema ≡ store_schema way
+    → AppendsPieces way old now (piece_tree way l.mailbox) (pieces_before l.number l.content l.i))
 
 abbrev pub decreases-pieces : goal.decreases-pieces
 decreases-pieces g l = length l.content + piece_size - l.i * piece_size

@@ -11,10 +11,21 @@ returns-clause-put g c clean = if_made c.execute.result _ (λ count is way n m h
     let old = state g.S.Store c.args.tx.now.conn.now in
     let new = state g.S.Store c.execute.new.self.conn.now in
     let number = c.args.number in
-    let ran = (made g.S.Store _ _ c.args.tx.now.conn.now c.execute.new.self.conn.now c.execute.result _ c.execute.ensures.ended (c.execute.ensures.runs clean) count is).2 in
+    let ran = (made g.S.Store _ _ c.args.tx.now.conn.now c.execute.new.self.conn.now c.execute.result _ c.execute.ensures.ended
+    (c.execute.ensures.runs clean) count is).2 in
     let went : Executes document_text (raise_params number) old new (Ok count) =
-    rw (c.params-to_sql.ensures, c.params-to_sql-2.ensures, c.whole-number.ensures, c.whole-next.ensures, fits_i64 number (omega (arith, c.requires)), fits_i64 (number + 1) c.requires) at ran in
+    rw (
+      c.params-to_sql.ensures,
+      c.params-to_sql-2.ensures,
+      c.whole-number.ensures,
+      c.whole-next.ensures,
+      fits_i64 number (omega (arith, c.requires)),
+      fits_i64 (number + 1) c.requires,
+    ) at ran in
     counts_documents way old new number count n m went has some)
 
 pub returns-clause-inside : goal.returns-clause-inside
-returns-clause-inside g c clean = if_made c.execute.result _ (λ count is. stays g.S.Store _ _ c.args.tx.now.conn.now c.execute.new.self.conn.now c.execute.result _ c.execute.ensures.ended (c.execute.ensures.runs clean) count is)
+returns-clause-inside g c clean =
+    if_made c.execute.result _
+    (λ count is. stays g.S.Store _ _ c.args.tx.now.conn.now c.execute.new.self.conn.now c.execute.result _ c.execute.ensures.ended
+    (c.execute.ensures.runs clean) count is)

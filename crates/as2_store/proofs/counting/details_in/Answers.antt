@@ -14,4 +14,5 @@ rows-preserved c ds all =
     pushed ∙ ap₂ (λ l d. l ++ d ∷ []) (c.rows.invariant ds all) shown ∙ sym (take_more ds i New within)
 
 pub returns-clause-shown : goal.returns-clause-shown
-returns-clause-shown c ds all = c.rows.invariant ds all ∙ take_all c.rows.row-index ds (omega (arith, c.rows-test.false, ap length all, length-map ds detail_row))
+returns-clause-shown c ds all = c.rows.invariant ds all
+    ∙ take_all c.rows.row-index ds (omega (arith, c.rows-test.false, ap length all, length-map ds detail_row))

@@ -10,4 +10,5 @@ query_all-requires-clause-plain g c = receipt_stage_plain
 pub returns-clause-rows : goal.returns-clause-rows
 returns-clause-rows g c =
     let old = state g.S.Store c.args.conn.now in
-    reads_less _ _ old (state g.S.Store c.query_all.new.conn) c.query_all.result (λ s rows r shown. finds_receipt_stages old old rows.items shown s r) c.query_all.ensures.shown
+    reads_less _ _ old (state g.S.Store c.query_all.new.conn) c.query_all.result
+    (λ s rows r shown. finds_receipt_stages old old rows.items shown s r) c.query_all.ensures.shown

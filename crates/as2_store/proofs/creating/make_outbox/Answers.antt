@@ -9,4 +9,5 @@ returns-clause-made g c clean =
     let ran_1 = c.in_ok-run.ensures.ran was_1 in
     let ran_2 = c.in_ok-run-2.ensures.ran was_2 in
     let ran_3 = c.in_ok-run-3.ensures.ran clean in
-    makes_outbox (state g.S.Store c.args.tx.now.conn.now) (state g.S.Store c.run.new.tx.conn.now) (state g.S.Store c.run-2.new.tx.conn.now) (state g.S.Store c.run-3.new.tx.conn.now) ran_1.0 ran_2.0 ran_3.0 ran_1.1 ran_2.1 ran_3.1
+    makes_outbox (state g.S.Store c.args.tx.now.conn.now) (state g.S.Store c.run.new.tx.conn.now) (state g.S.Store c.run-2.new.tx.conn.now)
+    (state g.S.Store c.run-3.new.tx.conn.now) ran_1.0 ran_2.0 ran_3.0 ran_1.1 ran_2.1 ran_3.1

@@ -7,7 +7,8 @@ use Rattle.as2_store.proofs.documents.evidence_in.Goals as goal
 pub returns-in_default-clause-evidence : goal.returns-in_default-clause-evidence
 returns-in_default-clause-evidence g c = read_ok _ _ _ _ _ _ (λ s r shown.
     let got : slice_get c.in_ok-rows.rows.items 0 ≡ None = search rules in
-    no_evidence c.args.number (evidence_at s c.args.number) c.in_ok-rows.rows.items shown got) (mapped _ _ _ _ _ _ _ c.map_err.ensures.cases c.in_ok-rows.was c.evidence_rows.ensures.rows)
+    no_evidence c.args.number (evidence_at s c.args.number) c.in_ok-rows.rows.items shown got)
+    (mapped _ _ _ _ _ _ _ c.map_err.ensures.cases c.in_ok-rows.was c.evidence_rows.ensures.rows)
 
 pub returns-clause-evidence : goal.returns-clause-evidence
 returns-clause-evidence g c = read_ok _ _ _ _ _ _ (λ s r shown.

@@ -25,10 +25,13 @@ returns-clause-found g c =
     let row = c.in_ok-row.row in
     let content = c.in_ok-content.content in
     let evidence = c.in_ok-evidence.evidence in
-    let P = λ (s : State) (b : Bool). (p : OutEntry → Bool) → c.args.rows.now ≡ map out_shown (filter p s.outbox) → Some (out_entry row b content evidence) ≡ find p s.outbox in
-    let parts = read_then _ _ (IsPart row content) _ _ _ content (Ok evidence) (λ s b r of own p d found number. (of p d found number, own p d found number)) c.in_ok-content.ensures.content
+    let P = λ (s : State) (b : Bool). (p : OutEntry → Bool) → c.args.rows.now ≡ map out_shown (filter p s.outbox)
+    → Some (out_entry row b content evidence) ≡ find p s.outbox in
+    let parts = read_then _ _ (IsPart row content) _ _ _ content (Ok evidence)
+    (λ s b r of own p d found number. (of p d found number, own p d found number)) c.in_ok-content.ensures.content
     (reads_standing _ (λ s b. (p : OutEntry → Bool) (d : OutEntry) → find p s.outbox ≡ Some d → row.number ≡ d.number → b ≡ d.evidence) _ _ _
-    (λ s b held is p d found own. is ∙ ap (evidence_at s) own ∙ own_evidence p s.outbox d held.stands.documents.1.distinct found) c.in_ok-evidence.ensures.evidence) in
+    (λ s b held is p d found own. is ∙ ap (evidence_at s) own
+    ∙ own_evidence p s.outbox d held.stands.documents.1.distinct found) c.in_ok-evidence.ensures.evidence) in
     read_ok P _ _ _ c.in_ok-begun.begun _ (λ s r it p all. ap Some c.with_content.ensures ∙ it p all)
     (read_then _ _ P _ _ _ evidence (Ok c.in_ok-begun.begun) (λ s b r of was p all.
     let got : slice_get c.args.rows.now 0 ≡ Some c.in-Some.row.now = search rules in
@@ -38,15 +41,18 @@ returns-clause-found g c =
     let summary : c.in_ok-row.row ≡ out_summary it.0 = read it.0 it.2 in
     let number = ap (λ x. x.number) summary in
     let both = of p it.0 it.1 number in
-    ap Some (document_is row b content evidence it.0 summary (was p it.0 it.1 number (ap (λ x. x.tries) summary)) both.0 both.1) ∙ sym it.1) parts c.in_ok-begun.ensures.begun)
+    ap Some (document_is row b content evidence it.0 summary (was p it.0 it.1 number (ap (λ x. x.tries) summary)) both.0 both.1)
+    ∙ sym it.1) parts c.in_ok-begun.ensures.begun)
 
 pub returns-in_err-evidence-clause-found : goal.returns-in_err-evidence-clause-found
 returns-in_err-evidence-clause-found g c =
-    read_then _ (λ _ _. ⊥) _ _ _ _ c.in_ok-content.content c.from_residual-in_err-evidence.result (λ s b r content none. absurd none) c.in_ok-content.ensures.content
+    read_then _ (λ _ _. ⊥) _ _ _ _ c.in_ok-content.content c.from_residual-in_err-evidence.result
+    (λ s b r content none. absurd none) c.in_ok-content.ensures.content
     (read_bad _ (λ _ _. ⊥) _ _ c.evidence_in.result c.from_residual-in_err-evidence.result c.from_residual-in_err-evidence.ensures.0 c.evidence_in.ensures.evidence)
 
 pub returns-in_err-begun-clause-found : goal.returns-in_err-begun-clause-found
 returns-in_err-begun-clause-found g c =
-    let parts = read_then _ _ (λ _ _. Unit {0}) _ _ _ c.in_ok-content.content (Ok c.in_ok-evidence.evidence) (λ s b r of own. tt) c.in_ok-content.ensures.content c.in_ok-evidence.ensures.evidence in
+    let parts = read_then _ _ (λ _ _. Unit {0}) _ _ _ c.in_ok-content.content (Ok c.in_ok-evidence.evidence)
+    (λ s b r of own. tt) c.in_ok-content.ensures.content c.in_ok-evidence.ensures.evidence in
     read_then _ (λ _ _. ⊥) _ _ _ _ c.in_ok-evidence.evidence c.from_residual-in_err-begun.result (λ s b r content none. absurd none) parts
     (read_bad _ (λ _ _. ⊥) _ _ c.begun_in.result c.from_residual-in_err-begun.result c.from_residual-in_err-begun.ensures.0 c.begun_in.ensures.begun)

@@ -21,5 +21,14 @@ returns-clause-rows g c =
     reads_less _ _ old (state g.S.Store c.query_all.new.conn) c.query_all.result
     (λ s rows r shown.
     let it : Shown any_due_text (any_params kind m) old old rows.items =
-    rw (c.params-to_sql.ensures, c.params-to_sql-2.ensures, c.whole-kind.ensures, c.code.ensures.code, c.whole-moment.ensures, c.seconds.ensures.seconds, fits_i64 kind (omega (arith, most)), fits_i64 m (omega (arith, c.seconds.ensures.bound, c.seconds.ensures.seconds))) at shown in
+    rw (
+      c.params-to_sql.ensures,
+      c.params-to_sql-2.ensures,
+      c.whole-kind.ensures,
+      c.code.ensures.code,
+      c.whole-moment.ensures,
+      c.seconds.ensures.seconds,
+      fits_i64 kind (omega (arith, most)),
+      fits_i64 m (omega (arith, c.seconds.ensures.bound, c.seconds.ensures.seconds)),
+    ) at shown in
     finds_none kind m old old rows.items it s r) c.query_all.ensures.shown

@@ -17,7 +17,8 @@ returns-clause-within g c =
     let old = state g.S.Store c.args.tx.now.conn.now in
     let new = state g.S.Store c.query_all.new.self.conn.now in
     let was : HasCleanDisk new → HasCleanDisk old = λ clean. omega (arith, c.query_all.ensures.survives.clean, clean) in
-    queried_inside (λ rows. rows.items) _ _ old new c.query_all.result (λ clean. c.requires.begun (was clean)) c.query_all.ensures.ok c.query_all.ensures.err c.query_all.ensures.survives
+    queried_inside (λ rows. rows.items) _ _ old new c.query_all.result
+    (λ clean. c.requires.begun (was clean)) c.query_all.ensures.ok c.query_all.ensures.err c.query_all.ensures.survives
 
 pub returns-clause-open : goal.returns-clause-open
 returns-clause-open g c clean = ok_then c.query_all.result (c.query_all.ensures.ok clean) (λ rows shown. shown_open _ _ _ _ rows.items shown)
@@ -39,6 +40,15 @@ returns-clause-rows g c clean =
     IfOk-weaker c.query_all.result _ _
     (λ rows shown way s stood.
     let it : Shown all_due_text (any_params kind m) old new rows.items =
-    rw (c.params-to_sql.ensures, c.params-to_sql-2.ensures, c.whole-kind.ensures, c.code.ensures.code, c.whole-moment.ensures, c.seconds.ensures.seconds, fits_i64 kind (omega (arith, most)), fits_i64 m (omega (arith, c.seconds.ensures.bound, c.seconds.ensures.seconds))) at shown in
+    rw (
+      c.params-to_sql.ensures,
+      c.params-to_sql-2.ensures,
+      c.whole-kind.ensures,
+      c.code.ensures.code,
+      c.whole-moment.ensures,
+      c.seconds.ensures.seconds,
+      fits_i64 kind (omega (arith, most)),
+      fits_i64 m (omega (arith, c.seconds.ensures.bound, c.seconds.ensures.seconds)),
+    ) at shown in
     reads_due kind m old new rows.items it s stood)
     (c.query_all.ensures.ok clean)

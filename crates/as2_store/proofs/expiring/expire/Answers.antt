@@ -25,7 +25,8 @@ returns-in_err-used_up-clause-passed g c =
     let same : end ≡ c.conn-in_err-used_up-1.given.0 = search rules in
     let first : IsInside (state g.S.Store (record old { in_transaction = true })) one = rw c.transaction-tx.ensures.begun at c.pass_due.ensures.within in
     subst (λ h. WritesTables (ticked_in m) (state g.S.Store old) (state g.S.Store h) c.from_residual-in_err-used_up.result) same
-    (gives_up g.S.Store old last end (ticked_in m) c.from_residual-in_err-used_up.result c.from_residual-in_err-used_up.ensures.0 (inside_then _ one last first c.pass_due-2.ensures.within) c.drop-tx-in_err-used_up.ensures.survives c.drop-tx-in_err-used_up.ensures.undone)
+    (gives_up g.S.Store old last end (ticked_in m) c.from_residual-in_err-used_up.result c.from_residual-in_err-used_up.ensures.0
+    (inside_then _ one last first c.pass_due-2.ensures.within) c.drop-tx-in_err-used_up.ensures.survives c.drop-tx-in_err-used_up.ensures.undone)
 
 pub returns-in_default-clause-passed : goal.returns-in_default-clause-passed
 returns-in_default-clause-passed g c =
@@ -37,7 +38,8 @@ returns-in_default-clause-passed g c =
     let same : end ≡ c.conn-in_default-1.given.0 = search rules in
     let first : IsInside (state g.S.Store (record old { in_transaction = true })) one = rw c.transaction-tx.ensures.begun at c.pass_due.ensures.within in
     subst (λ h. WritesTables (ticked_in m) (state g.S.Store old) (state g.S.Store h) (Err (SqliteFailure OutOfMemory))) same
-    (gives_up g.S.Store old last end (ticked_in m) (Err (SqliteFailure OutOfMemory)) refl (inside_then _ one last first c.pass_due-2.ensures.within) c.drop-tx-in_default.ensures.survives c.drop-tx-in_default.ensures.undone)
+    (gives_up g.S.Store old last end (ticked_in m) (Err (SqliteFailure OutOfMemory)) refl
+    (inside_then _ one last first c.pass_due-2.ensures.within) c.drop-tx-in_default.ensures.survives c.drop-tx-in_default.ensures.undone)
 
 pub returns-in_err-commit-clause-passed : goal.returns-in_err-commit-clause-passed
 returns-in_err-commit-clause-passed g c =
@@ -48,10 +50,14 @@ returns-in_err-commit-clause-passed g c =
     let end = c.commit.new.self.0 in
     let same : end ≡ c.conn-2-1.given.0 = search rules in
     let first : IsInside (state g.S.Store (record old { in_transaction = true })) one = rw c.transaction-tx.ensures.begun at c.pass_due.ensures.within in
-    let done = time_passes g.S.Store old one last m c.in_ok-overdue.overdue c.in_ok-used_up.used_up c.pass_due-2.ensures.within.clean (rw c.transaction-tx.ensures.begun at c.in_ok-overdue.ensures.open) (rw c.transaction-tx.ensures.begun at c.in_ok-overdue.ensures.passed) c.in_ok-used_up.ensures.passed in
+    let done = time_passes g.S.Store old one last m c.in_ok-overdue.overdue c.in_ok-used_up.used_up c.pass_due-2.ensures.within.clean
+    (rw c.transaction-tx.ensures.begun at c.in_ok-overdue.ensures.open)
+    (rw c.transaction-tx.ensures.begun at c.in_ok-overdue.ensures.passed) c.in_ok-used_up.ensures.passed in
     subst (λ h. WritesTables (ticked_in m) (state g.S.Store old) (state g.S.Store h) c.from_residual-in_err-commit.result) same
-    (fails_to_commit g.S.Store old last end (ticked_in m) c.from_residual-in_err-commit.result c.from_residual-in_err-commit.ensures.0 (inside_then _ one last first c.pass_due-2.ensures.within) c.commit.ensures.survives done
-    (λ late. undone last (state g.S.Store end) _ (c.in_ok-used_up.ensures.inside (omega (arith, c.commit.ensures.survives.clean, late))) (c.in_err-commit.ensures.err late)))
+    (fails_to_commit g.S.Store old last end (ticked_in m) c.from_residual-in_err-commit.result c.from_residual-in_err-commit.ensures.0
+    (inside_then _ one last first c.pass_due-2.ensures.within) c.commit.ensures.survives done
+    (λ late. undone last (state g.S.Store end) _ (c.in_ok-used_up.ensures.inside (omega (arith, c.commit.ensures.survives.clean, late)))
+    (c.in_err-commit.ensures.err late)))
 
 pub returns-clause-counted : goal.returns-clause-counted
 returns-clause-counted g c late s r =
@@ -78,6 +84,10 @@ returns-clause-passed g c =
     let end = c.commit.new.self.0 in
     let same : end ≡ c.conn-2-1.given.0 = search rules in
     let first : IsInside (state g.S.Store (record old { in_transaction = true })) one = rw c.transaction-tx.ensures.begun at c.pass_due.ensures.within in
-    let done = time_passes g.S.Store old one last m c.in_ok-overdue.overdue c.in_ok-used_up.used_up c.pass_due-2.ensures.within.clean (rw c.transaction-tx.ensures.begun at c.in_ok-overdue.ensures.open) (rw c.transaction-tx.ensures.begun at c.in_ok-overdue.ensures.passed) c.in_ok-used_up.ensures.passed in
+    let done = time_passes g.S.Store old one last m c.in_ok-overdue.overdue c.in_ok-used_up.used_up c.pass_due-2.ensures.within.clean
+    (rw c.transaction-tx.ensures.begun at c.in_ok-overdue.ensures.open)
+    (rw c.transaction-tx.ensures.begun at c.in_ok-overdue.ensures.passed) c.in_ok-used_up.ensures.passed in
     subst (λ h. WritesTables (ticked_in m) (state g.S.Store old) (state g.S.Store h) (Ok c.in-Some.count)) same
-    (commits g.S.Store old last end (ticked_in m) c.in-Some.count (inside_then _ one last first c.pass_due-2.ensures.within) c.commit.ensures.survives done (λ late. (c.in_ok-commit.ensures.ok late).1) (λ db opened may. g.met.S.Store.settled end.store db opened may))
+    (commits g.S.Store old last end (ticked_in m) c.in-Some.count
+    (inside_then _ one last first c.pass_due-2.ensures.within) c.commit.ensures.survives done (λ late. (c.in_ok-commit.ensures.ok late).1)
+    (λ db opened may. g.met.S.Store.settled end.store db opened may))

@@ -17,7 +17,8 @@ returns-then-is_empty-clause-passed g c clean way s stood =
     let found = c.in_ok-found.ensures.rows clean way s stood in
     let empty = c.if-is_empty.ensures in
     let zero : length c.as_slice-rows.result.now ≡ 0 = grind (arith, nat_tests) in
-    let none = none_over kind c.args.moment c.args.detail c.requires.passes old s stood (no_number (due_numbers kind c.args.moment s) (sym (c.as_slice-rows.ensures.value ∙ found.1) ∙ no_row c.as_slice-rows.result.now zero)) in
+    let none = none_over kind c.args.moment c.args.detail c.requires.passes old s stood
+    (no_number (due_numbers kind c.args.moment s) (sym (c.as_slice-rows.ensures.value ∙ found.1) ∙ no_row c.as_slice-rows.result.now zero)) in
     (subst (Stands (VersionThree way) new.now) (sym none.0) (subst (λ d. Stands (VersionThree way) d s) (sym found.0) stood), sym none.1)
 
 pub returns-clause-passed : goal.returns-clause-passed
@@ -32,6 +33,10 @@ returns-clause-passed g c clean way s stood =
     let was_mid = c.pass_each.ensures.within.clean was_one in
     let found = c.in_ok-found.ensures.rows was_mid way s stood in
     let still : Stands (VersionThree way) mid.now s = subst (λ d. Stands (VersionThree way) d s) (sym found.0) stood in
-    let passed = c.in_ok-pass_each.ensures.put was_one way (due_numbers kind m s) s.outbox (due_small kind m mid s still) (c.as_slice-rows.ensures.value ∙ found.1) (documents_of mid.now s still) in
-    let taken = c.in_ok-take_due.ensures.put clean way (all_waiting s) (waits_of mid one s _ still passed) in
-    (stands_passed way kind m detail c.requires.passes mid one last s still passed taken, ap length (c.as_slice-rows.ensures.value ∙ found.1) ∙ length-map (due_numbers kind m s) number_row ∙ due_count kind m detail c.requires.passes s)
+    let passed = c.in_ok-pass_each.ensures.put was_one way (due_numbers kind m s) s.outbox (due_small kind m mid s still)
+    (c.as_slice-rows.ensures.value ∙ found.1) (documents_of mid.now s still) in
+    let taken = c.in_ok-take_due.ensures.put clean way (all_waiting s) (waits_of mid one s _ still passed) in (
+      stands_passed way kind m detail c.requires.passes mid one last s still passed taken,
+      ap length (c.as_slice-rows.ensures.value ∙ found.1)
+          ∙ length-map (due_numbers kind m s) number_row ∙ due_count kind m detail c.requires.passes s,
+    )

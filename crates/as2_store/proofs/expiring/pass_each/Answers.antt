@@ -35,14 +35,19 @@ rows-preserved g c =
           let before = so_far.2 (c.pass.ensures.within.clean clean) way ns ds small all held in
           let n = get_or ns i 0 in
           let within : i < length ns = omega (arith, c.rows-test.true, ap length all, length-map ns number_row) in
-          let shown = number_here c.args.rows.now ns i c.row-item.result c.in_ok-number.number all c.rows-test.true (ap (λ r. column r 0) (sym c.row-item.is) ∙ c.in_ok-number.ensures.ok.1) in
+          let shown = number_here c.args.rows.now ns i c.row-item.result c.in_ok-number.number all c.rows-test.true
+          (ap (λ r. column r 0) (sym c.row-item.is) ∙ c.in_ok-number.ensures.ok.1) in
           let is = asked_number ns i c.in_ok-number.number c.asked.result small within shown c.asked.ensures.within in
-          let one = subst (λ k. ChangesTable mid new (store_schema way) outbox_tree (map out_row (passing_one detail k (passed_documents detail (take i ns) ds)))) is (c.in_ok-pass.ensures.put clean way (passed_documents detail (take i ns) ds) before.holds) in
-          subst (RewritesDocuments way old new) (one_more_passed detail ns i 0 within ds) (rewritten_more way old mid new detail n (passed_documents detail (take i ns) ds) before one),
+          let one = subst (λ k. ChangesTable mid new (store_schema way) outbox_tree
+          (map out_row (passing_one detail k (passed_documents detail (take i ns) ds)))) is
+          (c.in_ok-pass.ensures.put clean way (passed_documents detail (take i ns) ds) before.holds) in
+          subst (RewritesDocuments way old new) (one_more_passed detail ns i 0 within ds)
+          (rewritten_more way old mid new detail n (passed_documents detail (take i ns) ds) before one),
     )
 
 pub returns-clause-put : goal.returns-clause-put
 returns-clause-put g c clean way ns ds small all held =
     let old = state g.S.Store c.args.tx.now.conn.now in
     let new = state g.S.Store c.rows.tx.conn.now in
-    subst (RewritesDocuments way old new) (all_passed c.args.detail c.args.rows.now ns c.rows.row-index ds all (omega (arith, c.rows-test.false))) (c.rows.invariant.2 clean way ns ds small all held)
+    subst (RewritesDocuments way old new) (all_passed c.args.detail c.args.rows.now ns c.rows.row-index ds all (omega (arith, c.rows-test.false)))
+    (c.rows.invariant.2 clean way ns ds small all held)

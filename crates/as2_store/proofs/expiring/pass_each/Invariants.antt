@@ -17,4 +17,5 @@ invariant-rows g l =
     let now = state g.S.Store l.tx.conn.now in
     (l.tx.conn.ghost_name ≡ l.fn.tx.conn.ghost_name)
     × IsInside old now
-    × (HasCleanDisk now → (way : Way) (ns : List ℕ) (ds : List OutEntry) → AllByRecursion (λ n. n < end_of_numbers) ns → l.rows ≡ map number_row ns → HoldsDocuments way old.now ds → RewritesDocuments way old now (passed_documents l.detail (take l.row-index ns) ds))
+    × (HasCleanDisk now → (way : Way) (ns : List ℕ) (ds : List OutEntry) → AllByRecursion (λ n. n < end_of_numbers) ns → l.rows ≡ map number_row ns
+    → HoldsDocuments way old.now ds → RewritesDocuments way old now (passed_documents l.detail (take l.row-index ns) ds))

@@ -14,5 +14,6 @@ returns-clause-rows g c =
     let old = state g.S.Store c.args.conn.now in
     reads_less _ _ old (state g.S.Store c.query_all.new.conn) c.query_all.result
     (λ s rows r shown.
-    let it : Shown in_by_key_text (key_params c.args.sender.now c.args.receiver.now c.args.value.now) old old rows.items = rw (c.params-to_sql.ensures, c.params-to_sql-2.ensures, c.params-to_sql-3.ensures) at shown in
+    let it : Shown in_by_key_text (key_params c.args.sender.now c.args.receiver.now c.args.value.now) old old rows.items =
+    rw (c.params-to_sql.ensures, c.params-to_sql-2.ensures, c.params-to_sql-3.ensures) at shown in
     finds_key c.args.sender.now c.args.receiver.now c.args.value.now old old rows.items it s r) c.query_all.ensures.shown

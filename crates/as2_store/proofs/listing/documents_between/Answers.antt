@@ -30,8 +30,15 @@ rows-init g c =
     let made = c.in-Ok.ensures in
     let old = state g.S.Store c.args.conn.now in
     let new = state g.S.Store c.in-Ok.rows.conn.now in
-    let kept = leaves_nothing out_by_details_text (bound c.args.codes.now) old new out_by_details_plain c.requires.open made.survives in
-    (refl, made.mode c.requires.autocommit, kept, λ clean s r. rw c.new-documents.ensures.items (none_listed g.S.Store out_by_details_text (bound c.args.codes.now) out_shown (λ ds. map out_summary (filter (is_in c.args.wanted) ds)) c.args.conn.now out_by_details_plain refl c.in-Ok.rows.conn.now (made.begun clean) (c.requires.open (omega (arith, kept.clean, clean))) s r))
+    let kept = leaves_nothing out_by_details_text (bound c.args.codes.now) old new out_by_details_plain c.requires.open made.survives in (
+      refl,
+      made.mode c.requires.autocommit,
+      kept,
+      λ clean s r. rw c.new-documents.ensures.items
+          (none_listed g.S.Store out_by_details_text (bound c.args.codes.now) out_shown
+          (λ ds. map out_summary (filter (is_in c.args.wanted) ds)) c.args.conn.now out_by_details_plain refl c.in-Ok.rows.conn.now (made.begun clean)
+          (c.requires.open (omega (arith, kept.clean, clean))) s r),
+    )
 
 pub returns-in-Err-advance-clause-documents : goal.returns-in-Err-advance-clause-documents
 returns-in-Err-advance-clause-documents g c =
@@ -39,11 +46,14 @@ returns-in-Err-advance-clause-documents g c =
     let mid = state g.S.Store c.rows.rows.conn.now in
     let now = c.advance.new.self.conn.now in
     let same : now ≡ c.conn-in-Err-advance-1.given.0 = search rules in
-    subst (λ h. ReadsTables (λ s documents. documents.items ≡ map out_summary (filter (is_in c.args.wanted) s.outbox)) old (state g.S.Store h) (Err c.fault_of-in-Err-advance.result)) same
+    subst (λ h. ReadsTables (λ s documents. documents.items ≡ map out_summary (filter (is_in c.args.wanted) s.outbox)) old (state g.S.Store h)
+    (Err c.fault_of-in-Err-advance.result)) same
     (lists_none _ old (state g.S.Store now) _ (still_nothing old mid (state g.S.Store now) c.rows.invariant.2 c.advance.ensures.survives)
     (λ clean s r.
     let it = c.rows.invariant.3 (omega (arith, c.advance.ensures.survives.clean, clean)) s r in
-    rests_still mid (state g.S.Store now) s (rests_still old mid s r (inl it.same)) (fails_to_query out_by_details_text (bound c.args.codes.now) mid (state g.S.Store now) c.in-Err-advance.error (c.in-Err-advance.ensures.err clean out_by_details_text (bound c.args.codes.now) it.given it.has))))
+    rests_still mid (state g.S.Store now) s (rests_still old mid s r (inl it.same))
+    (fails_to_query out_by_details_text (bound c.args.codes.now) mid (state g.S.Store now) c.in-Err-advance.error
+    (c.in-Err-advance.ensures.err clean out_by_details_text (bound c.args.codes.now) it.given it.has))))
 
 pub returns-in_default-clause-documents : goal.returns-in_default-clause-documents
 returns-in_default-clause-documents g c =
@@ -54,13 +64,17 @@ returns-in_default-clause-documents g c =
     let same : now ≡ c.conn-in_default-1.given.0 = search rules in
     let moved = c.in-Ok-advance.ensures in
     let none : row_if c.advance.new.self.has_row now ≡ None = rw c.in_default.is at (sym c.get.ensures) in
-    subst (λ h. ReadsTables (λ s documents. documents.items ≡ map out_summary (filter (is_in c.args.wanted) s.outbox)) old (state g.S.Store h) (Ok c.rows.documents)) same
+    subst (λ h. ReadsTables (λ s documents. documents.items ≡ map out_summary (filter (is_in c.args.wanted) s.outbox)) old (state g.S.Store h)
+    (Ok c.rows.documents)) same
     (lists _ old new _ c.requires.open (λ clean. (moved.same clean).0.is_open) (still_nothing old mid new c.rows.invariant.2 c.advance.ensures.survives)
     (λ clean s r.
     let it = c.rows.invariant.3 (omega (arith, c.advance.ensures.survives.clean, clean)) s r in
     let before = rests_still old mid s r (inl it.same) in (
       rests_still mid new s before (inl (moved.same clean)),
-      it.read _ (lists_between c.args.wanted mid new it.given (rw c.requires.codes at (all_given g.S.Store out_by_details_text (bound c.args.codes.now) out_shown (λ ds. map out_summary (filter (is_in c.args.wanted) ds)) c.args.conn.now c.rows.rows.conn.now now _ it (subst (Advances g.S.Store c.rows.rows.conn.now now) none (moved.ok clean)))) s before) ∙ ap (map out_summary) (kept_all c.args.wanted s.outbox),
+      it.read _ (lists_between c.args.wanted mid new it.given
+          (rw c.requires.codes at (all_given g.S.Store out_by_details_text (bound c.args.codes.now) out_shown
+          (λ ds. map out_summary (filter (is_in c.args.wanted) ds)) c.args.conn.now c.rows.rows.conn.now now _ it
+          (subst (Advances g.S.Store c.rows.rows.conn.now now) none (moved.ok clean)))) s before) ∙ ap (map out_summary) (kept_all c.args.wanted s.outbox),
     )))
 
 pub returns-in_err-document-clause-documents : goal.returns-in_err-document-clause-documents
@@ -107,6 +121,8 @@ rows-preserved g c =
       still_nothing old mid (state g.S.Store now) c.rows.invariant.2 c.advance.ensures.survives,
       λ clean s r.
           let it = c.rows.invariant.3 (omega (arith, c.advance.ensures.survives.clean, clean)) s r in
-          one_more g.S.Store out_by_details_text (bound c.args.codes.now) out_shown (λ ds. map out_summary (filter (is_in c.args.wanted) ds)) c.args.conn.now c.rows.rows.conn.now now _ it c.in-Some.row.now _ (subst (Advances g.S.Store c.rows.rows.conn.now now) some (moved.ok clean)) (moved.same clean)
+          one_more g.S.Store out_by_details_text (bound c.args.codes.now) out_shown
+          (λ ds. map out_summary (filter (is_in c.args.wanted) ds)) c.args.conn.now c.rows.rows.conn.now now _ it c.in-Some.row.now _
+          (subst (Advances g.S.Store c.rows.rows.conn.now now) some (moved.ok clean)) (moved.same clean)
           (λ ds d here so_far. c.in_ok-list_if.ensures.listed ∙ one_more_document c.args.wanted ds d _ _ so_far (read d here)),
     )

@@ -17,4 +17,6 @@ invariant-rows g l =
     let old = state g.S.Store l.fn.conn in
     let now = state g.S.Store l.rows.conn.now in
     (l.rows.conn.ghost_name ≡ l.initial.rows.conn.ghost_name) × (l.rows.conn.now.in_transaction ≡ false) × Survives old now (CommitsTables Some old)
-    × (HasCleanDisk now → (s : State) → Rests old s → HasListed g.S.Store out_by_details_text (bound l.codes) out_shown (λ ds. map out_summary (filter (is_in l.wanted) ds)) l.fn.conn l.rows.conn.now l.documents.items)
+    × (HasCleanDisk now → (s : State) → Rests old s
+    → HasListed g.S.Store out_by_details_text (bound l.codes) out_shown
+    (λ ds. map out_summary (filter (is_in l.wanted) ds)) l.fn.conn l.rows.conn.now l.documents.items)

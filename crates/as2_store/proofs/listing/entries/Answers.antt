@@ -28,8 +28,14 @@ rows-init g c =
     let made = c.in-Ok.ensures in
     let old = state g.S.Store c.args.conn.now in
     let new = state g.S.Store c.in-Ok.rows.conn.now in
-    let kept = leaves_nothing in_all_text [] old new in_all_plain c.requires.open made.survives in
-    (refl, made.mode c.requires.autocommit, kept, λ clean s r. rw c.new-entries.ensures.items (none_listed g.S.Store in_all_text [] in_shown (map in_summary) c.args.conn.now in_all_plain refl c.in-Ok.rows.conn.now (made.begun clean) (c.requires.open (omega (arith, kept.clean, clean))) s r))
+    let kept = leaves_nothing in_all_text [] old new in_all_plain c.requires.open made.survives in (
+      refl,
+      made.mode c.requires.autocommit,
+      kept,
+      λ clean s r. rw c.new-entries.ensures.items
+          (none_listed g.S.Store in_all_text [] in_shown (map in_summary) c.args.conn.now in_all_plain refl c.in-Ok.rows.conn.now (made.begun clean)
+          (c.requires.open (omega (arith, kept.clean, clean))) s r),
+    )
 
 pub returns-in-Err-advance-clause-entries : goal.returns-in-Err-advance-clause-entries
 returns-in-Err-advance-clause-entries g c =
@@ -41,7 +47,8 @@ returns-in-Err-advance-clause-entries g c =
     (lists_none _ old (state g.S.Store now) _ (still_nothing old mid (state g.S.Store now) c.rows.invariant.2 c.advance.ensures.survives)
     (λ clean s r.
     let it = c.rows.invariant.3 (omega (arith, c.advance.ensures.survives.clean, clean)) s r in
-    rests_still mid (state g.S.Store now) s (rests_still old mid s r (inl it.same)) (fails_to_query in_all_text [] mid (state g.S.Store now) c.in-Err-advance.error (c.in-Err-advance.ensures.err clean in_all_text [] it.given it.has))))
+    rests_still mid (state g.S.Store now) s (rests_still old mid s r (inl it.same))
+    (fails_to_query in_all_text [] mid (state g.S.Store now) c.in-Err-advance.error (c.in-Err-advance.ensures.err clean in_all_text [] it.given it.has))))
 
 pub returns-in_default-clause-entries : goal.returns-in_default-clause-entries
 returns-in_default-clause-entries g c =
@@ -58,7 +65,9 @@ returns-in_default-clause-entries g c =
     let it = c.rows.invariant.3 (omega (arith, c.advance.ensures.survives.clean, clean)) s r in
     let before = rests_still old mid s r (inl it.same) in (
       rests_still mid new s before (inl (moved.same clean)),
-      it.read s.inbox (lists_all mid new it.given (all_given g.S.Store in_all_text [] in_shown (map in_summary) c.args.conn.now c.rows.rows.conn.now now _ it (subst (Advances g.S.Store c.rows.rows.conn.now now) none (moved.ok clean))) s before),
+      it.read s.inbox (lists_all mid new it.given
+          (all_given g.S.Store in_all_text [] in_shown (map in_summary) c.args.conn.now c.rows.rows.conn.now now _ it
+          (subst (Advances g.S.Store c.rows.rows.conn.now now) none (moved.ok clean))) s before),
     )))
 
 pub returns-in_err-entry-clause-entries : goal.returns-in_err-entry-clause-entries
@@ -105,6 +114,7 @@ rows-preserved g c =
       still_nothing old mid (state g.S.Store now) c.rows.invariant.2 c.advance.ensures.survives,
       λ clean s r.
           let it = c.rows.invariant.3 (omega (arith, c.advance.ensures.survives.clean, clean)) s r in
-          rw pushed (one_more g.S.Store in_all_text [] in_shown (map in_summary) c.args.conn.now c.rows.rows.conn.now now _ it c.in-Some.row.now _ (subst (Advances g.S.Store c.rows.rows.conn.now now) some (moved.ok clean)) (moved.same clean)
+          rw pushed (one_more g.S.Store in_all_text [] in_shown (map in_summary) c.args.conn.now c.rows.rows.conn.now now _ it c.in-Some.row.now _
+          (subst (Advances g.S.Store c.rows.rows.conn.now now) some (moved.ok clean)) (moved.same clean)
           (λ es e here so_far. one_more_entry es e _ _ so_far (read e here))),
     )

@@ -11,6 +11,8 @@ returns-clause-moved g c clean s it is =
     let was_1 = c.move_contents.ensures.within.clean was_2 in
     let was_0 = c.copy_inbox.ensures.within.clean was_1 in
     let counted : IsCounted s = record { receipts = it.receipts; documents = it.documents } in
-    let moved = c.in_ok-empty_first.ensures.emptied was_3 s counted (c.in_ok-move_contents.ensures.moved was_2 s (c.in_ok-copy_inbox.ensures.copied was_1 s counted (c.in_ok-make_beside.ensures.made was_0 s it))) in
-    originated (state g.S.Store c.args.tx.now.conn.now) (state g.S.Store c.empty_first.new.tx.conn.now) (state g.S.Store c.put_origin.new.tx.conn.now) s c.args.next it is moved
+    let moved = c.in_ok-empty_first.ensures.emptied was_3 s counted
+    (c.in_ok-move_contents.ensures.moved was_2 s (c.in_ok-copy_inbox.ensures.copied was_1 s counted (c.in_ok-make_beside.ensures.made was_0 s it))) in
+    originated (state g.S.Store c.args.tx.now.conn.now) (state g.S.Store c.empty_first.new.tx.conn.now)
+    (state g.S.Store c.put_origin.new.tx.conn.now) s c.args.next it is moved
     (c.in_ok-put_origin.ensures.put clean Migrated moved.schema moved.no_origin)

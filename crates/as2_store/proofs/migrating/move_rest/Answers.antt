@@ -7,4 +7,5 @@ returns-clause-moved g c clean s it =
     let was_1 = c.run-2.ensures.within.clean clean in
     let ran_1 = c.in_ok-run.ensures.ran was_1 in
     let ran_2 = c.in_ok-run-2.ensures.ran clean in
-    moved_rest (state g.S.Store c.args.tx.now.conn.now) (state g.S.Store c.run.new.tx.conn.now) (state g.S.Store c.run-2.new.tx.conn.now) ran_1.0 ran_2.0 s ran_1.1 ran_2.1 it
+    moved_rest (state g.S.Store c.args.tx.now.conn.now) (state g.S.Store c.run.new.tx.conn.now)
+    (state g.S.Store c.run-2.new.tx.conn.now) ran_1.0 ran_2.0 s ran_1.1 ran_2.1 it

@@ -13,7 +13,8 @@ returns-clause-within g c =
     let old = state g.S.Store c.args.tx.now.conn.now in
     let new = state g.S.Store c.query_all.new.self.conn.now in
     let was : HasCleanDisk new → HasCleanDisk old = λ clean. omega (arith, c.query_all.ensures.survives.clean, clean) in
-    queried_inside (λ rows. rows.items) _ _ old new c.query_all.result (λ clean. c.requires.begun (was clean)) c.query_all.ensures.ok c.query_all.ensures.err c.query_all.ensures.survives
+    queried_inside (λ rows. rows.items) _ _ old new c.query_all.result
+    (λ clean. c.requires.begun (was clean)) c.query_all.ensures.ok c.query_all.ensures.err c.query_all.ensures.survives
 
 pub returns-clause-rows : goal.returns-clause-rows
 returns-clause-rows g c clean =

@@ -9,5 +9,6 @@ returns-clause-put g c clean way s it =
     let one = c.in_ok-put_out.ensures.put was_one way it.schema in
     let two = c.in_ok-put_pieces.ensures.put was_two way one.schema_is in
     let three = rw c.progress_of.ensures at c.in_ok-put_out_waiting.ensures.put clean way two.schema_is in
-    entered_document way (state g.S.Store c.args.tx.now.conn.now) (state g.S.Store c.put_out.new.tx.conn.now) (state g.S.Store c.put_pieces.new.tx.conn.now) (state g.S.Store c.put_out_waiting.new.tx.conn.now)
+    entered_document way (state g.S.Store c.args.tx.now.conn.now) (state g.S.Store c.put_out.new.tx.conn.now)
+    (state g.S.Store c.put_pieces.new.tx.conn.now) (state g.S.Store c.put_out_waiting.new.tx.conn.now)
     s c.args.entry.now it c.requires.number c.requires.unsettled c.requires.begun one two three

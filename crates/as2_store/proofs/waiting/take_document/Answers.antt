@@ -20,5 +20,6 @@ returns-clause-put g c clean way ws it =
     let first = rw c.place_of.ensures.place at c.in_ok-take_waiting.ensures.put was_one way ws it in
     let held = still_held old one p ws it first in
     let second = rw c.place_of-2.ensures.place at c.in_ok-take_waiting-2.ensures.put was_two way (not_at p ws) held in
-    let third = rw c.place_of-3.ensures.place at c.in_ok-take_waiting-3.ensures.put clean way (not_at q (not_at p ws)) (still_held one two q (not_at p ws) held second) in
+    let third = rw c.place_of-3.ensures.place at c.in_ok-take_waiting-3.ensures.put clean way (not_at q (not_at p ws))
+    (still_held one two q (not_at p ws) held second) in
     taken_then way old one two new _ _ _ first second third

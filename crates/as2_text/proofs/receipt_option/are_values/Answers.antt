@@ -10,5 +10,6 @@ use Rattle.as2_text.proofs.receipt_option.are_values.Goals as goal
 pub returns : goal.returns
 returns c =
     all_from_yields_List (λ value. not (is_empty value)) _ _ _ c.all.ensures.ran
-    (YieldsList-from_slice_split _ is_comma c.args.text.now c.split.ensures.rest c.split.ensures.done c.split.ensures.closure (λ x b q k. search (rules, tests)))
+    (YieldsList-from_slice_split _ is_comma c.args.text.now c.split.ensures.rest c.split.ensures.done c.split.ensures.closure
+    (λ x b q k. search (rules, tests)))
     (λ x b q k. search (rules, tests))

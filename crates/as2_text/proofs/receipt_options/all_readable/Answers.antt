@@ -8,5 +8,6 @@ use Rattle.as2_text.proofs.receipt_options.all_readable.Goals as goal
 pub returns : goal.returns
 returns c =
     all_from_yields_List is_readable _ _ _ c.all.ensures.ran
-    (YieldsList-from_slice_split _ is_semicolon c.args.value.now c.split.ensures.rest c.split.ensures.done c.split.ensures.closure (λ x b q k. search (rules, tests)))
+    (YieldsList-from_slice_split _ is_semicolon c.args.value.now c.split.ensures.rest c.split.ensures.done c.split.ensures.closure
+    (λ x b q k. search (rules, tests)))
     (λ x b q k. search (rules, tests))

@@ -10,7 +10,9 @@ pub returns-in-Some-clause-behind : goal.returns-in-Some-clause-behind
 returns-in-Some-clause-behind c = c.split_at.ensures.back ∙ cut_behind c.args.text.now c.in-Some.before.now _ c.in-Some.ensures.cut
 
 pub returns-in-None-clause-before : goal.returns-in-None-clause-before
-returns-in-None-clause-before c = c.split_at-in-None.ensures.front ∙ take_all (length c.args.text.now) c.args.text.now (omega arith) ∙ sym (before_none c.args.text.now c.in-None.ensures.whole)
+returns-in-None-clause-before c = c.split_at-in-None.ensures.front ∙ take_all (length c.args.text.now) c.args.text.now (omega arith)
+    ∙ sym (before_none c.args.text.now c.in-None.ensures.whole)
 
 pub returns-in-None-clause-behind : goal.returns-in-None-clause-behind
-returns-in-None-clause-behind c = c.split_at-in-None.ensures.back ∙ drop_all (length c.args.text.now) c.args.text.now (omega arith) ∙ sym (from_none c.args.text.now c.in-None.ensures.whole)
+returns-in-None-clause-behind c = c.split_at-in-None.ensures.back ∙ drop_all (length c.args.text.now) c.args.text.now (omega arith)
+    ∙ sym (from_none c.args.text.now c.in-None.ensures.whole)

@@ -8,4 +8,5 @@ returns-then-rest-ne10-clause-taken c = λ body text h. no_feed body text c.args
 
 pub returns-clause-taken : goal.returns-clause-taken
 returns-clause-taken c = λ body text h.
-    subst (λ (kept : List ℕ). HoldsLine kept body text (drop 1 c.args.rest.now)) (sym h.0) (takes_feed body text c.args.rest.now c.requires.some c.if-rest-ne10.false h.1)
+    subst (λ (kept : List ℕ). HoldsLine kept body text (drop 1 c.args.rest.now)) (sym h.0)
+    (takes_feed body text c.args.rest.now c.requires.some c.if-rest-ne10.false h.1)

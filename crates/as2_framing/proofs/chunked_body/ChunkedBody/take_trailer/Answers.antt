@@ -17,7 +17,8 @@ returns-in-Ended-clause-taken c = λ body text h.
 pub returns-else-front-missing-clause-taken : goal.returns-else-front-missing-clause-taken
 returns-else-front-missing-clause-taken c = λ body text h. (
   h.0,
-  subst (λ (n : ℕ). HoldsTrailer (16384 - (n - length c.first-front.result.now)) c.in-Open.line body text (drop (length c.first-front.result.now) c.args.rest.now)) (sym c.saturating_sub-room.ensures)
+  subst (λ (n : ℕ). HoldsTrailer (16384 - (n - length c.first-front.result.now)) c.in-Open.line body text
+      (drop (length c.first-front.result.now) c.args.rest.now)) (sym c.saturating_sub-room.ensures)
       (takes_trailer c.args.count c.args.line c.in-Open.line c.first-front.result.now body text c.args.rest.now
       (c.first-front.ensures ∙ ap (λ (n : ℕ). take n c.args.rest.now) c.saturating_sub-room.ensures) (sym c.scan.ensures.exact ∙ c.in-Open.is)
       (omega (arith, c.if-front-missing.false, c.missing.ensures, c.saturating_sub-room.ensures)) h.1),

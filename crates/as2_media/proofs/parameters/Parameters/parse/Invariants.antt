@@ -7,7 +7,8 @@ use Rattle.as2_media.proofs.parameters.Parameters.parse.Given as goal
 
 abbrev pub invariant-loop-rest : goal.invariant-loop-rest
 invariant-loop-rest l =
-    with_front l.held.items (parameters (8 - length l.held.items) (segments_of (option_map (λ t. t.now) l.rest))) ≡ parameters 8 (segments_of (option_map (λ t. t.now) l.fn.text))
+    with_front l.held.items (parameters (8 - length l.held.items) (segments_of (option_map (λ t. t.now) l.rest))) ≡ parameters 8
+    (segments_of (option_map (λ t. t.now) l.fn.text))
 
 abbrev pub decreases-loop-rest : goal.decreases-loop-rest
 decreases-loop-rest l = length (segments_of (option_map (λ t. t.now) l.rest))

@@ -5,7 +5,8 @@ use Rattle.as2_messages.proofs.answer_parser.AnswerParser.take_body.Goals as goa
 
 pub returns-in-Open : goal.returns-in-Open
 returns-in-Open c = λ text awaits.
-    let k : IsMissingEnd c.in-Open.awaited.missing × AwaitsAnswer c.in-Open.awaited text [] = subst (IsTakenAs text) c.in-Open.is (c.in_ok-awaited.ensures text awaits) in
+    let k : IsMissingEnd c.in-Open.awaited.missing
+    × AwaitsAnswer c.in-Open.awaited text [] = subst (IsTakenAs text) c.in-Open.is (c.in_ok-awaited.ensures text awaits) in
     (awaits_open c.in-Open.awaited text k, k)
 
 pub returns-in-Whole : goal.returns-in-Whole

@@ -22,4 +22,6 @@ pub returns-then-is_empty-clause-only : goal.returns-then-is_empty-clause-only
 returns-then-is_empty-clause-only c field f = absurd (returns-then-is_empty-clause-none c field f)
 
 pub returns-clause-only : goal.returns-clause-only
-returns-clause-only c field f = ap (λ (x : List ℕ × List ℕ). Some x) (the_field c.args.value.now c.in-Some.before.now c.in-Some.behind.now c.without_blanks_and_line_ends-mic.result.now c.without_blanks_and_line_ends-digest.result.now field c.in-Some.ensures.cut c.without_blanks_and_line_ends-mic.ensures c.without_blanks_and_line_ends-digest.ensures f)
+returns-clause-only c field f =
+    ap (λ (x : List ℕ × List ℕ). Some x)
+    (the_field c.args.value.now c.in-Some.before.now c.in-Some.behind.now c.without_blanks_and_line_ends-mic.result.now c.without_blanks_and_line_ends-digest.result.now field c.in-Some.ensures.cut c.without_blanks_and_line_ends-mic.ensures c.without_blanks_and_line_ends-digest.ensures f)

@@ -8,8 +8,10 @@ returns-then-ne c = piece_tells c.args.self.now c.args.other.now c.loop-i.i c.pi
 pub loop-i-preserved : goal.loop-i-preserved
 loop-i-preserved c = record {
   lengths = c.loop-i.invariant.lengths;
-  fronts = next_same c.args.self.now c.args.other.now c.loop-i.i c.piece.result c.piece-in-loop-i.result c.loop-i.invariant.lengths (omega (arith, c.loop-i-test.true, c.count-i-end.ensures)) c.loop-i.invariant.fronts c.piece.ensures c.piece-in-loop-i.ensures c.if-ne.ensures;
+  fronts = next_same c.args.self.now c.args.other.now c.loop-i.i c.piece.result c.piece-in-loop-i.result c.loop-i.invariant.lengths
+      (omega (arith, c.loop-i-test.true, c.count-i-end.ensures)) c.loop-i.invariant.fronts c.piece.ensures c.piece-in-loop-i.ensures c.if-ne.ensures;
 }
 
 pub returns : goal.returns
-returns c = all_same c.args.self.now c.args.other.now c.loop-i.i c.loop-i.invariant.lengths (omega (arith, c.loop-i-test.false, c.count-i-end.ensures)) c.loop-i.invariant.fronts
+returns c = all_same c.args.self.now c.args.other.now c.loop-i.i c.loop-i.invariant.lengths
+    (omega (arith, c.loop-i-test.false, c.count-i-end.ensures)) c.loop-i.invariant.fronts

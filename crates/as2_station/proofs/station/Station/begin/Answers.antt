@@ -18,7 +18,8 @@ returns-in-Receipt g c = record {
       let new = g.R.Records.shows c.begin_receipt.new.records in
       subst (λ (w : Next). TakesEvent A (begin_event w m) said_to_begin (g.R.Records.shows c.args.self.now) new c.begin_receipt.result) (sym c.in-Receipt.is)
       (takes_event A (event.BeginReceipt n m) said_to_begin _ new c.begin_receipt.result
-      (subst (λ (h : g.row.R.Denot). Does (λ s. Some (on_received s n (begun_receipt A m))) always (true ≡ true) said_to_begin (g.R.Records.shows h) new c.begin_receipt.result) c.self.view_is c.begin_receipt.ensures.taken)
+      (subst (λ (h : g.row.R.Denot). Does (λ s. Some (on_received s n (begun_receipt A m))) always (true ≡ true) said_to_begin
+      (g.R.Records.shows h) new c.begin_receipt.result) c.self.view_is c.begin_receipt.ensures.taken)
       (g.met.R.Records.rests_last c.begin_receipt.new.records)
       (λ head body moment is. absurd (let other = is in cc)));
 }
@@ -32,7 +33,8 @@ returns-in-Document g c = record {
       let new = g.R.Records.shows c.begin.new.records in
       subst (λ (w : Next). TakesEvent A (begin_event w m) said_to_begin (g.R.Records.shows c.args.self.now) new c.begin.result) (sym c.in-Document.is)
       (takes_event A (event.Begin n m) said_to_begin _ new c.begin.result
-      (subst (λ (h : g.row.R.Denot). Does (λ s. Some (on_document s n (begun_document A m))) always (true ≡ true) said_to_begin (g.R.Records.shows h) new c.begin.result) c.self.view_is c.begin.ensures.taken)
+      (subst (λ (h : g.row.R.Denot). Does (λ s. Some (on_document s n (begun_document A m))) always (true ≡ true) said_to_begin
+      (g.R.Records.shows h) new c.begin.result) c.self.view_is c.begin.ensures.taken)
       (g.met.R.Records.rests_last c.begin.new.records)
       (λ head body moment is. absurd (let other = is in cc)));
 }

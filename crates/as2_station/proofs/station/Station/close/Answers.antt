@@ -18,9 +18,11 @@ returns-in-Receipt g c = record {
       let n = c.in-Receipt.number in
       let m = c.args.moment in
       let new = g.R.Records.shows c.close_receipt.new.records in
-      subst (λ (w : Next). TakesEvent A (outcome_event w c.args.answer m) said_to_outcome (g.R.Records.shows c.args.self.now) new c.close_receipt.result) (sym c.in-Receipt.is)
+      subst (λ (w : Next). TakesEvent A (outcome_event w c.args.answer m) said_to_outcome
+      (g.R.Records.shows c.args.self.now) new c.close_receipt.result) (sym c.in-Receipt.is)
       (takes_event A (event.OutcomeReceipt n c.args.answer m) said_to_outcome _ new c.close_receipt.result
-      (subst (λ (h : g.row.R.Denot). Does (λ s. Some (on_received s n (closed_receipt A c.args.answer m))) always (true ≡ true) said_to_outcome (g.R.Records.shows h) new c.close_receipt.result) c.self.view_is c.close_receipt.ensures.taken)
+      (subst (λ (h : g.row.R.Denot). Does (λ s. Some (on_received s n (closed_receipt A c.args.answer m))) always (true ≡ true) said_to_outcome
+      (g.R.Records.shows h) new c.close_receipt.result) c.self.view_is c.close_receipt.ensures.taken)
       (g.met.R.Records.rests_last c.close_receipt.new.records)
       (λ head body moment is. absurd (let other = is in cc)));
 }
@@ -32,10 +34,13 @@ returns-in-Document g c = record {
       let n = c.in-Document.number in
       let m = c.args.moment in
       let new = g.R.Records.shows c.close.new.records in
-      subst (λ (w : Next). TakesEvent A (outcome_event w c.args.answer m) said_to_outcome (g.R.Records.shows c.args.self.now) new c.close.result) (sym c.in-Document.is)
+      subst (λ (w : Next). TakesEvent A (outcome_event w c.args.answer m) said_to_outcome (g.R.Records.shows c.args.self.now) new c.close.result)
+      (sym c.in-Document.is)
       (takes_event A (event.Outcome n c.args.answer m) said_to_outcome _ new c.close.result
-      (by_state (λ (known : Digests) s. Some (on_document s n (closed_document A known c.args.answer m))) always (true ≡ true) said_to_outcome _ new c.close.result
-      (subst (λ (h : g.row.R.Denot). Does (λ s. Some (on_document s n (closed_document A AllDigests c.args.answer m))) always (true ≡ true) said_to_outcome (g.R.Records.shows h) new c.close.result) c.self.view_is c.close.ensures.taken))
+      (by_state (λ (known : Digests) s. Some (on_document s n (closed_document A known c.args.answer m))) always
+      (true ≡ true) said_to_outcome _ new c.close.result
+      (subst (λ (h : g.row.R.Denot). Does (λ s. Some (on_document s n (closed_document A AllDigests c.args.answer m))) always
+      (true ≡ true) said_to_outcome (g.R.Records.shows h) new c.close.result) c.self.view_is c.close.ensures.taken))
       (g.met.R.Records.rests_last c.close.new.records)
       (λ head body moment is. absurd (let other = is in cc)));
 }

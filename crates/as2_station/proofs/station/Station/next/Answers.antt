@@ -19,10 +19,13 @@ returns-clause-next g c =
     let m = c.args.moment in
     let old = g.R.Records.shows c.args.self.now in
     let new = g.R.Records.shows c.due_out.new.self in
-    let found = read_of _ _ _ _ _ (ap g.R.Records.shows c.self.view_is) (asked m _ _ _ _ c.in_default.is c.in_ok-number.ensures.due c.in_ok-number-2.field-0 c.in_ok-number-2.ensures.due) in
+    let found = read_of _ _ _ _ _ (ap g.R.Records.shows c.self.view_is)
+    (asked m _ _ _ _ c.in_default.is c.in_ok-number.ensures.due c.in_ok-number-2.field-0 c.in_ok-number-2.ensures.due) in
     elim c.match-branch-4.branch [
-      | in-Some-2 w ↦ subst (Reads {A = Option Next} {E = StoreFault} (λ s found. found ≡ next s m) old new) (ap (λ (o : Option _). Ok (option_map Document o)) w.in-Some-2.is ∙ sym w.result-is) found
-      | in-None w ↦ subst (Reads {A = Option Next} {E = StoreFault} (λ s found. found ≡ next s m) old new) (ap (λ (o : Option _). Ok (option_map Document o)) w.in-None.is ∙ sym w.result-is) found
+      | in-Some-2 w ↦ subst (Reads {A = Option Next} {E = StoreFault} (λ s found. found ≡ next s m) old new)
+          (ap (λ (o : Option _). Ok (option_map Document o)) w.in-Some-2.is ∙ sym w.result-is) found
+      | in-None w ↦ subst (Reads {A = Option Next} {E = StoreFault} (λ s found. found ≡ next s m) old new)
+          (ap (λ (o : Option _). Ok (option_map Document o)) w.in-None.is ∙ sym w.result-is) found
     ]
 
 pub returns-in_err-number-2-clause-least : goal.returns-in_err-number-2-clause-least
@@ -32,4 +35,6 @@ pub returns-clause-least : goal.returns-clause-least
 returns-clause-least g c = is_least c.args.moment _ _ _ (returns-clause-next g c)
 
 pub returns-in-Some-clause-least : goal.returns-in-Some-clause-least
-returns-in-Some-clause-least g c = read_of _ _ _ _ _ (ap g.R.Records.shows c.self.view_is) (receipt_is_least c.args.moment _ _ c.in_ok-number.field-0 c.in-Some.number c.in-Some.is c.in_ok-number.ensures.due)
+returns-in-Some-clause-least g c =
+    read_of _ _ _ _ _ (ap g.R.Records.shows c.self.view_is)
+    (receipt_is_least c.args.moment _ _ c.in_ok-number.field-0 c.in-Some.number c.in-Some.is c.in_ok-number.ensures.due)

@@ -17,7 +17,8 @@ events-preserved g c =
       was.1 ∙ more,
       longer ∙ ap (λ n. n + 1) was.2 ∙ sym (length-append c.events.yielded (c.in-Some.event ∷ [])),
       omega (arith),
-      subst (λ rs. TakesEvents g.R.Records.shows c.args.agreements.now (c.events.yielded ++ c.in-Some.event ∷ []) rs c.args.self.now c.step.new.self) (sym pushed) taken,
+      subst (λ rs. TakesEvents g.R.Records.shows c.args.agreements.now
+          (c.events.yielded ++ c.in-Some.event ∷ []) rs c.args.self.now c.step.new.self) (sym pushed) taken,
     )
 
 pub returns-clause-each : goal.returns-clause-each

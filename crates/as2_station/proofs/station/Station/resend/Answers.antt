@@ -15,7 +15,8 @@ returns g c = record {
       let m = c.args.moment in
       let new = g.R.Records.shows c.resend.new.records in
       takes_event A (event.Resend n m) said_to_resend _ new c.resend.result
-      (subst (λ (h : g.row.R.Denot). Does (λ s. Some (on_document s n (resent_document A m))) always (true ≡ true) said_to_resend (g.R.Records.shows h) new c.resend.result) c.self.view_is c.resend.ensures.taken)
+      (subst (λ (h : g.row.R.Denot). Does (λ s. Some (on_document s n (resent_document A m))) always (true ≡ true) said_to_resend
+      (g.R.Records.shows h) new c.resend.result) c.self.view_is c.resend.ensures.taken)
       (g.met.R.Records.rests_last c.resend.new.records)
       (λ head body moment is. absurd (let other = is in cc));
 }

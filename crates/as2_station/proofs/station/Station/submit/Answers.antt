@@ -14,6 +14,7 @@ returns-clause-taken g c =
     let new = g.R.Records.shows c.submit.new.records in
     takes_event A (Submit d.organization d.partner d.content c.args.moment) said_to_submit _ new c.submit.result
     (subst (λ (h : g.row.R.Denot). Does (λ s. submit A s d.organization d.partner d.content c.args.moment) always
-    (is_none (submit_refusal A d.organization d.partner d.content) ≡ true) said_to_submit (g.R.Records.shows h) new c.submit.result) c.self.view_is c.submit.ensures.taken)
+    (is_none (submit_refusal A d.organization d.partner d.content) ≡ true) said_to_submit
+    (g.R.Records.shows h) new c.submit.result) c.self.view_is c.submit.ensures.taken)
     (g.met.R.Records.rests_last c.submit.new.records)
     (λ head body moment is. absurd (let other = is in cc))

@@ -11,7 +11,8 @@ returns g c = record {
   taken =
       let new = g.R.Records.shows c.tick.new.records in
       takes_event c.args.agreements.now (event.Tick c.args.moment) Ticked _ new c.tick.result
-      (subst (λ (h : g.row.R.Denot). Does (λ s. Some (tick c.args.moment s)) always (true ≡ true) Ticked (g.R.Records.shows h) new c.tick.result) c.self.view_is c.tick.ensures.taken)
+      (subst (λ (h : g.row.R.Denot). Does (λ s. Some (tick c.args.moment s)) always (true ≡ true) Ticked
+      (g.R.Records.shows h) new c.tick.result) c.self.view_is c.tick.ensures.taken)
       (g.met.R.Records.rests_last c.tick.new.records)
       (λ head body moment is. absurd (let other = is in cc));
 }

@@ -4,4 +4,5 @@ use Rattle.as2_store.proofs.Committing.{write_of, write_told}
 use Rattle.as2_store.proofs.store.Store.add_out.Goals as goal
 
 pub returns-clause-added : goal.returns-clause-added
-returns-clause-added g c = write_of _ _ _ _ _ (ap (state g.S.Store) c.self.view_is) (write_told _ _ _ _ c.map_err.result _ c.map_err.ensures.cases c.add_document.ensures.added)
+returns-clause-added g c =
+    write_of _ _ _ _ _ (ap (state g.S.Store) c.self.view_is) (write_told _ _ _ _ c.map_err.result _ c.map_err.ensures.cases c.add_document.ensures.added)

@@ -4,4 +4,8 @@ use Rattle.as2_store.proofs.Querying.{mapped, read_of, read_then}
 use Rattle.as2_store.proofs.store.Store.find_in_number.Goals as goal
 
 pub returns-clause-found : goal.returns-clause-found
-returns-clause-found g c = read_of _ _ _ _ _ (ap (state g.S.Store) c.self.view_is) (read_then _ _ _ _ _ _ c.in_ok-rows.rows c.shown_entry.result (λ s found r shown told. told (λ e. e.number == c.args.number) (c.deref.ensures.value ∙ shown)) (mapped _ _ _ _ _ _ _ c.map_err.ensures.cases c.in_ok-rows.was c.rows_by_number.ensures.rows) c.shown_entry.ensures.found)
+returns-clause-found g c =
+    read_of _ _ _ _ _ (ap (state g.S.Store) c.self.view_is)
+    (read_then _ _ _ _ _ _ c.in_ok-rows.rows c.shown_entry.result
+    (λ s found r shown told. told (λ e. e.number == c.args.number) (c.deref.ensures.value ∙ shown))
+    (mapped _ _ _ _ _ _ _ c.map_err.ensures.cases c.in_ok-rows.was c.rows_by_number.ensures.rows) c.shown_entry.ensures.found)
