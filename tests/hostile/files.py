@@ -228,10 +228,10 @@ def paths(runner):
         runner.want(f"a store that is {name}", 3, "store: Refused", "list", "in", hint=NO_FILE, store=name)
     for name in ("absent/x.db", "good.db/x.db"):
         runner.want(f"a store that is {name}", 3, "store: Refused", "list", "in", hint=NO_FOLDER, store=name)
-    # (of a store that is there the kit tells only that it can't be opened: no hint says why)
-    runner.want("a store that is second.db", 3, "store: Refused", "list", "in", store="second.db")
+    # (of a store that is there the kit tells only that it can't be opened: the file system is asked why)
+    runner.want("a store that is second.db", 3, "store: Refused", "list", "in", hint=NO_FILE, store="second.db")
     write(runner.desk, "good.db-journal", b"journal")
-    runner.want("a store with a journal of SQLite's", 3, "store: Refused", "list", "in", store="good.db")
+    runner.want("a store with a journal of SQLite's", 3, "store: Refused", "list", "in", hint=JOURNAL, store="good.db")
     os.remove(path("good.db-journal"))
     write(runner.desk, "fresh.db.new-journal", b"journal")
     runner.want("a draft with a journal of SQLite's", 3, "store: Refused", "list", "in", hint=JOURNAL, store="fresh.db")
@@ -392,8 +392,7 @@ def rights(runner):
         os.chmod(os.path.join(folder, "there.db"), file_mode)
         os.chmod(folder, mode)
         for command in (["list", "in"], ["post"], ["tick"]):
-            told = NO_RIGHT if 0o000 in (mode, file_mode) else None
-            runner.want(f"{what}: {command[0]}", 3, "store: Refused", *command, hint=told, store="shut/there.db", text=post_of(b"shut") if command == ["post"] else b"", **more)
+            runner.want(f"{what}: {command[0]}", 3, "store: Refused", *command, hint=NO_RIGHT, store="shut/there.db", text=post_of(b"shut") if command == ["post"] else b"", **more)
         if mode != 0o777:
             runner.want(f"{what}: a new store", 3, "store: Refused", "tick", hint=NO_RIGHT, store="shut/new.db", **more)
         os.chmod(folder, 0o755)

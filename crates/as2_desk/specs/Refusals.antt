@@ -1,5 +1,5 @@
 -- The lines on standard error that say why something was refused.
-use Rattle.std.specs.Prelude.{ℕ, List, ◌++◌, Option, Some, None, codes}
+use Rattle.std.specs.Prelude.{ℕ, List, [], ◌++◌, ◌==◌, Option, Some, None, codes, decimal, if◌then◌else◌}
 use Rattle.as2_agreement.specs.Keys.{fault_key, fault_name, key_name}
 use Rattle.as2_agreement.specs.declared.fault.AgreementFault.{AgreementFault}
 use Rattle.as2_agreement.specs.declared.key.Key.{Key}
@@ -7,6 +7,9 @@ use Rattle.as2_exchange.specs.declared.answer.Refusal.{Refusal}
 use Rattle.as2_exchange.specs.declared.answer.Refusal.TheVariants as station
 use Rattle.as2_exchange.specs.declared.fault.StoreFault.{StoreFault}
 use Rattle.as2_exchange.specs.declared.fault.StoreFault.TheVariants as store_fault
+use Rattle.as2_exchange.specs.declared.place.RowPlace.{RowPlace}
+use Rattle.as2_exchange.specs.declared.place.Table.{Table}
+use Rattle.as2_exchange.specs.declared.place.Table.TheVariants as table
 use Rattle.as2_desk.specs.Statuses.{end_name, status_failed, status_refused}
 use Rattle.as2_http.specs.declared.stream.Served.{Served}
 use Rattle.as2_http.specs.declared.stream.Served.TheVariants as end
@@ -29,7 +32,7 @@ fault_name_line name (Some key) = codes "agreements: " ++ (name ++ (codes " " ++
 abbrev pub agreements_line : AgreementFault → List ℕ
 agreements_line fault = fault_name_line (fault_name fault) (fault_key fault)
 
--- a row that is damaged is told as what the database refuses
+-- a row that is damaged is told as what the database refuses; where it stands has a line of its own
 abbrev pub store_fault_name : StoreFault → List ℕ
 store_fault_name store_fault.Memory = codes "Memory"
 store_fault_name store_fault.Disk = codes "Disk"
@@ -48,12 +51,34 @@ path_hint path_fault.Journal = codes "\nhint: SQLite left a journal beside it; o
 path_hint path_fault.NoRoom = codes "\nhint: the disk has no room\n"
 path_hint path_fault.Other = codes "\nhint: the file system can't open it\n"
 
+-- a table, as SQLite's statements name it
+abbrev pub table_name : Table → List ℕ
+table_name table.Meta = codes "meta"
+table_name table.Inbox = codes "inbox2"
+table_name table.InboxPiece = codes "inbox2_piece"
+table_name table.Outbox = codes "outbox"
+table_name table.OutboxPiece = codes "outbox_piece"
+table_name table.Evidence = codes "evidence"
+table_name table.Waiting = codes "waiting"
+table_name table.Origin = codes "origin"
+table_name table.Resent = codes "resent"
+
+-- the number of the entry that a row is of, where one can be read
+abbrev pub number_words : ℕ → List ℕ
+number_words number = if number == 0 then [] else codes ", number " ++ decimal number
+
+-- where the row stands that is damaged
+abbrev pub damaged_lines : RowPlace → List ℕ
+damaged_lines place =
+    codes "store: Refused\nhint: table " ++ (table_name place.table ++ (number_words place.number ++ codes ": a row is damaged or missing\n"))
+
 -- `store: NAME`, and behind it what may help
 abbrev pub store_lines : OpenFault → List ℕ
 store_lines Held = codes "store: Refused\nhint: another process has the file open\n"
 store_lines LogAlone = codes "store: Refused\nhint: the file isn't there, but a log of it is; nothing was made\n"
 store_lines (Path fault) = codes "store: " ++ (codes "Refused" ++ path_hint fault)
 store_lines (Store store_fault.OtherVersion) = codes "store: OtherVersion\nhint: stores of version 3 are read; 'migrate' makes one of a store of version 1 or 2\n"
+store_lines (Store (store_fault.Damaged place)) = damaged_lines place
 store_lines (Store fault) = codes "store: " ++ (store_fault_name fault ++ codes "\n")
 
 abbrev pub refusal_name : Refusal → List ℕ

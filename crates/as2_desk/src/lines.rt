@@ -3,7 +3,7 @@ ghost use Rattle.std.specs.Prelude.{◌≡◌, ◌+◌, ◌≤◌, ◌++◌, len
 
 use arrayvec::ArrayString;
 
-/// A line. The longest has 105 bytes, and a number that itoa writes is known to have 40 at most.
+/// A line. The longest has 120 bytes, and a number that itoa writes is known to have 40 at most.
 pub(crate) type Line = ArrayString<128>;
 
 /// Three texts, one behind the other.

@@ -1,6 +1,6 @@
 //! Why something was refused, in one line on standard error.
 ghost use Rattle.std.specs.Prelude.{◌≡◌, ◌⊎◌, ◌≤◌, length, false, true};
-ghost use Rattle.as2_desk.specs.Refusals.{agreements_line, error_line, path_hint, refusal_name, refusal_status, refused_line, store_fault_name, store_lines};
+ghost use Rattle.as2_desk.specs.Refusals.{agreements_line, damaged_lines, error_line, path_hint, refusal_name, refusal_status, refused_line, store_fault_name, store_lines, table_name};
 ghost use Rattle.as2_desk.specs.Endings.{EndsRefused};
 ghost use Rattle.as2_desk.specs.Statuses.{status_failed, status_refused};
 ghost use Rattle.as2_desk.specs.Written.{WritesIf, written_of};
@@ -10,9 +10,10 @@ ghost use Rattle.as2_host.specs.declared.stores.OpenFault.{OpenFault as TheFault
 use crate::lines::{Line, joined};
 use crate::status::{FAILED, REFUSED, Ran, end_name};
 use as2_agreement::AgreementFault;
-use as2_exchange::{Refusal, StoreFault};
+use as2_exchange::{Refusal, RowPlace, StoreFault, Table};
 use as2_host::{OpenFault, PathFault};
 use as2_http::{Served, Sink, push_all};
+use itoa::Buffer;
 
 /// Why what was asked for isn't done.
 #[derive(Clone, Copy, Debug, PartialEq, Eq)]
@@ -118,6 +119,39 @@ fn path_hint(fault: PathFault) -> &'static str
     }
 }
 
+/// The name of a table, as SQLite's statements have it.
+fn table_name(table: Table) -> &'static str
+    ensures name { result.now ≡ table_name table }
+    ensures short { length result.now ≤ 12 }
+{
+    match table {
+        Table::Meta => "meta",
+        Table::Inbox => "inbox2",
+        Table::InboxPiece => "inbox2_piece",
+        Table::Outbox => "outbox",
+        Table::OutboxPiece => "outbox_piece",
+        Table::Evidence => "evidence",
+        Table::Waiting => "waiting",
+        Table::Origin => "origin",
+        Table::Resent => "resent",
+    }
+}
+
+/// `store: Refused`, and where the row stands that is damaged: its table, and the number of its entry, where it has one that can
+/// be read.
+fn damaged_lines(place: RowPlace) -> Line
+    ensures { result.bytes ≡ damaged_lines place }
+{
+    let mut line = joined("store: Refused\nhint: table ", table_name(place.table), "");
+    if place.number != 0 {
+        let mut digits = Buffer::new();
+        line.push_str(", number ");
+        line.push_str(digits.format(place.number));
+    }
+    line.push_str(": a row is damaged or missing\n");
+    line
+}
+
 /// `store: NAME`, and behind it what may help.
 fn store_lines(fault: OpenFault) -> Line
     ensures { result.bytes ≡ store_lines fault }
@@ -139,6 +173,7 @@ fn store_lines(fault: OpenFault) -> Line
             "OtherVersion",
             "\nhint: stores of version 3 are read; 'migrate' makes one of a store of version 1 or 2\n",
         ),
+        OpenFault::Store(StoreFault::Damaged(place)) => damaged_lines(place),
         OpenFault::Store(fault) => joined("store: ", store_fault_name(fault), "\n"),
     }
 }

@@ -21,8 +21,8 @@ use Rattle.as2_exchange.specs.Lines.{http}
 use Rattle.as2_exchange.specs.Recording.{record_given, record_post, answer_to, requeued_by_repeat, first_entry}
 use Rattle.as2_exchange.specs.Step.{post, step}
 use Rattle.as2_exchange.specs.Run.{Trace, Run, AnEvent, AMigration, Answered, Failed, migrated_state}
-use Rattle.as2_exchange.proofs.Repeats.{RecordedOrSame, fresh, repeated, clash, left_is, with_first, recorded_posts, Grows, run_grows, find-lasting}
-use Rattle.as2_exchange.proofs.Repeats.{key_same, post_itself, repeats_itself, settle_inbox, queued_lasting, map_append, changed_entries}
+use Rattle.as2_exchange.proofs.Repeats.{RecordedOrSame, fresh, repeated, clash, post_cases, with_first, recorded_posts, Grows, run_grows, find-lasting}
+use Rattle.as2_exchange.proofs.Repeats.{key_same, post_itself, repeats_itself, settle_inbox, queued_lasting, map_append, change_keeps_lasting}
 use Rattle.as2_exchange.proofs.Equal.{post_key, received_one}
 use Rattle.as2_exchange.proofs.Steady.{step_steady}
 
@@ -116,7 +116,7 @@ was_new A s m (IsReceipt r) y h grew =
     let at : (settle s m r).1.next_in ≡ y.1.next_in = ap (λ (z : Answer × State). z.1.next_in) (same_Some _ y h) in
     let same : (settle s m r).1.next_in ≡ s.next_in = (settle_inbox s m r).1 in
     absurd (omega arith)
-was_new A s m (IsDocument p) y h grew = (p, refl, new_document_is A s m p y grew (left_is A s m p (received_as s p) y h))
+was_new A s m (IsDocument p) y h grew = (p, refl, new_document_is A s m p y grew (post_cases A s m p (received_as s p) y h))
 
 -- the entry is found again, however many came behind it
 found_later : (s t u : State) (n m : ℕ) (p : Posted) → received_as s p ≡ None → recorded_posts t ≡ recorded_posts s ++ (n, p) ∷ [] → Grows t u
@@ -158,7 +158,7 @@ again A u k n p q None found repeat = absurd (cc)
 again A u k n p q (Some e) found repeat = (
   change_received u e.number (requeued_by_repeat k),
   ap (λ (b : Bool). if b then answered (e.number, e.posted) else Some (http 409 (Words IdUsedBefore), u)) same ∙ ap answered it,
-  changed_entries e.number (requeued_by_repeat k) (queued_lasting k) u.inbox,
+  change_keeps_lasting e.number (requeued_by_repeat k) (queued_lasting k) u.inbox,
   refl,
   refl,
 )

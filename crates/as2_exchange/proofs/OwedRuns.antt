@@ -1,8 +1,11 @@
--- In every state of a run, each receipt that is owed stands as its facts tell.
+-- In every state of a run, the receipt of each entry stands as its facts tell, whether one is owed or not: `receipts_law`, for the contract
+-- of `receipts_by_history`.
 -- The plan: `EntryStands` says it of one entry, `KeepsReceipts` of a state. An empty store has it (`nothing_received`), each event
 -- keeps it (`step_receipts`), and so does a run (`run_receipts`); the law is read off at the end.
--- An event is of one of three kinds: no fact of any receipt (`quiet`), a try of one receipt (`ActsOnReceipt`), or a posted document
--- (`left_receipts`). A new event of the machine gets one clause in `step_receipts`, by the lemma of its kind.
+-- An event is of one of four kinds: it leaves the inbox and is no fact of any receipt (`quiet`), acts on a document (`document_receipts`), is
+-- a try of one receipt (`ActsOnReceipt`), or a posted document (`posted_receipts`), whose names are then agreed (`reading_known`).
+-- A new event of the machine gets one clause in `step_receipts`, by the lemma of its kind, and before that one each in `step_formed`
+-- (States.antt), `step_grows` (Repeats.antt) and `step_steady` (Steady.antt). A new test of `post_reading` is a line in `reading_known`.
 use Rattle.std.proofs.Common.{◌≡◌, ℕ, Bool, true, false, not, ◌&&◌, ◌||◌, List, [], ◌∷◌, ◌++◌, Option, Some, None}
 use Rattle.std.proofs.Common.{refl, sym, ap, ◌∙◌, subst, append_assoc}
 use Rattle.std.specs.Prelude.{⊤, option_map, option_and_then, is_some, ◌==◌, if◌then◌else◌}
@@ -38,7 +41,7 @@ use Rattle.as2_exchange.proofs.Lists.{fold_last}
 use Rattle.as2_exchange.proofs.Places.{found_place}
 use Rattle.as2_exchange.proofs.Pushes.{answered_event, with_fact}
 use Rattle.as2_exchange.proofs.Acts.{AreAgreed}
-use Rattle.as2_exchange.proofs.Repeats.{RecordedOrSame, fresh, repeated, clash, left_is, recorded_posts, with_first}
+use Rattle.as2_exchange.proofs.Repeats.{RecordedOrSame, fresh, repeated, clash, post_cases, recorded_posts, with_first}
 use Rattle.as2_exchange.proofs.Repeats.{Grows, step_grows, find-lasting, key_same, repeats_itself}
 use Rattle.as2_exchange.proofs.Repeats.{left_inbox, acted_inbox, settle_inbox, submit_inbox, tick_inbox}
 use Rattle.as2_exchange.proofs.Repeats.{queued_lasting, receipt_begun_lasting, receipt_closed_lasting}
@@ -298,6 +301,7 @@ gone_before s s' q grows none = by (received_as s q) refl
 
 -- ---- what a run keeps
 
+-- `unposted`: a document that isn't received was never queued, whatever its number; its first post needs that
 record KeepsReceipts (A : Agreements) (past : List AnsweredEvent) (s : State) : Type 0 where
   formed : IsWellFormed A s
   each : (n : ℕ) (e : InEntry) → received_entry s n ≡ Some e → EntryStands A n past e.posted e
@@ -333,9 +337,9 @@ no_post : (b : Bool) (f : Fact) (j : ℕ) → (if b then Some (OfATry f) else No
 no_post true f j h = absurd (cc)
 no_post false f j h = absurd (cc)
 
-begin_acts : (A : Agreements) (v : Version) (k m : ℕ) → ActsOnReceipt A v k (BeginReceipt k m) (begun_receipt A m) (begin_fact m)
+receipt_begin_acts : (A : Agreements) (v : Version) (k m : ℕ) → ActsOnReceipt A v k (BeginReceipt k m) (begun_receipt A m) (begin_fact m)
 unfolding receipt_fact
-begin_acts A v k m = record {
+receipt_begin_acts A v k m = record {
   kept = receipt_begun_lasting A m;
   told = λ q a. ap (λ (b : Bool). if b && is_job a then Some (OfATry (ATry m)) else None) (same_number k);
   silent = λ n q a apart. rw apart refl;
@@ -343,10 +347,10 @@ begin_acts A v k m = record {
   moves = λ z p facts agreed h. try_begun A z.posted.how p facts m z agreed h;
 }
 
-outcome_acts : (A : Agreements) (v : Version) (k : ℕ) (got : TryAnswer) (m : ℕ)
+receipt_outcome_acts : (A : Agreements) (v : Version) (k : ℕ) (got : TryAnswer) (m : ℕ)
     → ActsOnReceipt A v k (OutcomeReceipt k got m) (closed_receipt A got m) (λ a. Some (outcome_fact (known_digests v) got m))
 unfolding receipt_fact
-outcome_acts A v k got m = record {
+receipt_outcome_acts A v k got m = record {
   kept = receipt_closed_lasting A got m;
   told = λ q a. ap (λ (b : Bool). if b then Some (outcome_fact (known_digests v) got m) else None) (same_number k);
   silent = λ n q a apart. rw apart refl;
@@ -456,9 +460,9 @@ module _ (A : Agreements) (past : List AnsweredEvent) (s : State) (keeps : Keeps
         stood : EntryStands A k (past ++ x ∷ []) d.posted (act d).1
         stood = stands_with A k past x d.posted (its (act d).0) d (act d).1 (acts.told d.posted (act d).0) (keeps.each k d found) (acts.moves d)
 
-    acted_step : (y : Answer × State) → Some (on_received s k act) ≡ Some y → IsWellFormed A y.1 → Grows s y.1
+    receipt_step : (y : Answer × State) → Some (on_received s k act) ≡ Some y → IsWellFormed A y.1 → Grows s y.1
         → KeepsReceipts A (past ++ answered_event s.version e y.0 ∷ []) y.1
-    acted_step y h = subst kept (same_Some _ y h) (acted_receipts (received_entry s k) refl)
+    receipt_step y h = subst kept (same_Some _ y h) (acted_receipts (received_entry s k) refl)
       where
         kept : Answer × State → Type 0
         kept z = IsWellFormed A z.1 → Grows s z.1 → KeepsReceipts A (past ++ answered_event s.version e z.0 ∷ []) z.1
@@ -582,12 +586,12 @@ module _ (A : Agreements) (past : List AnsweredEvent) (s : State) (keeps : Keeps
         → KeepsReceipts A (past ++ x ∷ []) s'
     kept_at s' t is kept = subst (λ (z : State). IsWellFormed A z → Grows s z → KeepsReceipts A (past ++ x ∷ []) z) (sym is) kept
 
-    left_receipts : (y : Answer × State) → ((p : Partner) × AreAgreed A q.receiver q.sender p) → RecordedOrSame A s m q (received_as s q) y
+    posted_receipts : (y : Answer × State) → ((p : Partner) × AreAgreed A q.receiver q.sender p) → RecordedOrSame A s m q (received_as s q) y
         → IsWellFormed A y.1 → Grows s y.1 → KeepsReceipts A (past ++ x ∷ []) y.1
-    left_receipts y known (fresh none small is) = kept_at y.1 (with_first s m q) (ap (λ (z : Answer × State). z.1) is) (fresh_receipts known none)
-    left_receipts y known (repeated d there same is) =
+    posted_receipts y known (fresh none small is) = kept_at y.1 (with_first s m q) (ap (λ (z : Answer × State). z.1) is) (fresh_receipts known none)
+    posted_receipts y known (repeated d there same is) =
         kept_at y.1 (change_received s d.number (requeued_by_repeat m)) (ap (λ (z : Answer × State). z.1) is) (repeated_receipts d there same)
-    left_receipts y known (clash d there other is) = kept_at y.1 s is (λ formed. clash_receipts d there other)
+    posted_receipts y known (clash d there other is) = kept_at y.1 s is (λ formed. clash_receipts d there other)
 
   post_receipts : (head : Head) (body : Text) (m : ℕ) (r : PostReading) (y : Answer × State) → post_reading A (known_digests s.version) head body ≡ r
       → post A s m r ≡ Some y → IsWellFormed A y.1 → Grows s y.1 → KeepsReceipts A (past ++ answered_event s.version (Post head body m) y.0 ∷ []) y.1
@@ -599,8 +603,8 @@ module _ (A : Agreements) (past : List AnsweredEvent) (s : State) (keeps : Keeps
   post_receipts head body m (IsDocument q) y is h formed grows =
       let read = post_reading A (known_digests s.version) head body in
       let known = document_known A read q (reading_known A (known_digests s.version) head body) is in
-      left_receipts m q (answered_event s.version (Post head body m) y.0) (posts_for A s.version head body m y.0 q is) y known
-      (left_is A s m q (received_as s q) y h) formed grows
+      posted_receipts m q (answered_event s.version (Post head body m) y.0) (posts_for A s.version head body m y.0 q is) y known
+      (post_cases A s m q (received_as s q) y h) formed grows
 
   -- ---- a step
 
@@ -615,10 +619,10 @@ module _ (A : Agreements) (past : List AnsweredEvent) (s : State) (keeps : Keeps
   step_receipts (Resend k m) y h = document_receipts (Resend k m) k (resent_document A m) y h (λ n q. refl)
   step_receipts (Tick m) y h = λ formed grows.
       quiet y.1 _ formed grows (left_inbox _ y h ∙ tick_inbox m s) (λ n q. other_quiet A s.version (Tick m) y.0 n q refl)
-  step_receipts (BeginReceipt k m) y h = acted_step k (BeginReceipt k m) (begun_receipt A m) (begin_fact m) (begin_acts A s.version k m) y h
+  step_receipts (BeginReceipt k m) y h = receipt_step k (BeginReceipt k m) (begun_receipt A m) (begin_fact m) (receipt_begin_acts A s.version k m) y h
   step_receipts (OutcomeReceipt k got m) y h =
-      acted_step k (OutcomeReceipt k got m) (closed_receipt A got m) (λ a. Some (outcome_fact (known_digests s.version) got m))
-      (outcome_acts A s.version k got m) y h
+      receipt_step k (OutcomeReceipt k got m) (closed_receipt A got m) (λ a. Some (outcome_fact (known_digests s.version) got m))
+      (receipt_outcome_acts A s.version k got m) y h
 
 -- ---- a run
 

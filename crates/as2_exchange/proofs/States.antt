@@ -22,7 +22,7 @@ use Rattle.as2_exchange.specs.Run.{Trace, Run, AnEvent, AMigration, Answered, Fa
 use Rattle.as2_exchange.specs.Invariants.{IsCounter, IsRecorded, IsWellFormed}
 use Rattle.as2_exchange.proofs.Documents.{if_either}
 use Rattle.as2_exchange.proofs.Submits.{document_taken, submit_either}
-use Rattle.as2_exchange.proofs.Repeats.{RecordedOrSame, fresh, repeated, clash, left_is, with_first}
+use Rattle.as2_exchange.proofs.Repeats.{RecordedOrSame, fresh, repeated, clash, post_cases, with_first}
 use Rattle.as2_exchange.proofs.Repeats.{queued_lasting, receipt_begun_lasting, receipt_closed_lasting}
 use Rattle.as2_exchange.proofs.WellFormed.{inbox_push, inbox_map, KeepsLasting, outbox_push, outbox_map, KeepsEntries, unsettled_entry}
 use Rattle.as2_exchange.proofs.Standing.{settled_keeps, changed_keeps, passed_keeps, begun_keeps, closed_keeps, resent_keeps}
@@ -165,7 +165,7 @@ left_formed A s m p o y at good h (clash e there other is) = subst (IsWellFormed
 record_formed : (A : Agreements) (s : State) (m : ℕ) (p : Posted) (y : Answer × State) → IsRecorded p → IsWellFormed A s → record_post A s m p ≡ Some y
     → IsWellFormed A y.1
 unfolding record_post
-record_formed A s m p y good h e = left_formed A s m p (received_as s p) y refl good h (left_is A s m p (received_as s p) y e)
+record_formed A s m p y good h e = left_formed A s m p (received_as s p) y refl good h (post_cases A s m p (received_as s p) y e)
 
 post_formed : (A : Agreements) (s : State) (m : ℕ) (r : PostReading) (y : Answer × State) → IsGood r → IsWellFormed A s → post A s m r ≡ Some y
     → IsWellFormed A y.1

@@ -14,7 +14,7 @@ use Rattle.as2_exchange.specs.Recording.{record_post}
 use Rattle.as2_exchange.specs.Step.{post, step, act_on, act_in}
 use Rattle.as2_exchange.specs.Run.{Trace, Run, AnEvent, AMigration, Answered, Failed, migrated_state, version_after}
 use Rattle.as2_exchange.proofs.Documents.{if_either}
-use Rattle.as2_exchange.proofs.Repeats.{RecordedOrSame, fresh, repeated, clash, left_is}
+use Rattle.as2_exchange.proofs.Repeats.{RecordedOrSame, fresh, repeated, clash, post_cases}
 use Rattle.as2_exchange.proofs.Submits.{submit_either}
 
 abbrev pub Steady : State → State → Type 0
@@ -56,7 +56,7 @@ post_steady : (A : Agreements) (s : State) (m : ℕ) (r : PostReading) (y : Answ
 unfolding record_post
 post_steady A s m (Refuses line) y h = subst (LeftSteady s) (same_Some _ y h) (steady s)
 post_steady A s m (IsReceipt r) y h = subst (LeftSteady s) (same_Some _ y h) (settle_steady s m r)
-post_steady A s m (IsDocument p) y h = recorded_steady A s m p (received_as s p) y (left_is A s m p (received_as s p) y h)
+post_steady A s m (IsDocument p) y h = recorded_steady A s m p (received_as s p) y (post_cases A s m p (received_as s p) y h)
 
 submit_steady : (A : Agreements) (s : State) (organization partner content : Text) (m : ℕ) (y : Answer × State)
     → submit A s organization partner content m ≡ Some y → Steady s y.1

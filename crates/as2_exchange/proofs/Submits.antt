@@ -9,8 +9,8 @@ use Rattle.as2_exchange.specs.Events.{Answer, Refused, Refusal, Submitted, Unkno
 use Rattle.as2_exchange.specs.Documents.{submit, new_document}
 
 -- the next number may be given
-pub is_left : (n : ℕ) → nat_le end_of_numbers n ≡ false → n < end_of_numbers
-is_left n h = grind (arith, nat_tests)
+pub number_is_left : (n : ℕ) → nat_le end_of_numbers n ≡ false → n < end_of_numbers
+number_is_left n h = grind (arith, nat_tests)
 
 -- the answer and the state where the document is taken in
 abbrev pub document_taken : Agreements → State → Text → Text → Text → ℕ → Answer × State
@@ -43,4 +43,4 @@ submit_either P A s organization partner content m y refused taken h =
     by true false large full f g k is = subst P (same_Some _ y is) (refused UnknownPartner)
     by true true true full f g k is = subst P (same_Some _ y is) (refused TooLarge)
     by true true false true f g k is = absurd (cc)
-    by true true false false f g k is = subst P (same_Some _ y is) (taken f g (is_left s.next_out k))
+    by true true false false f g k is = subst P (same_Some _ y is) (taken f g (number_is_left s.next_out k))

@@ -10,6 +10,7 @@ mod migrating;
 mod opening;
 mod places;
 mod reading;
+mod reasons;
 mod stores;
 
 pub use file_system::FileSystem;

@@ -54,6 +54,16 @@ impl Place {
     {
         self.name.as_str()
     }
+
+    /// The file itself, where a link leads.
+    pub(crate) fn real(&self) -> &str {
+        self.real.as_str()
+    }
+
+    /// The name of its log.
+    pub(crate) fn log(&self) -> &str {
+        self.log.as_str()
+    }
 }
 
 impl FileSystem<'_> {

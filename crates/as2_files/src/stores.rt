@@ -92,6 +92,7 @@ impl<R: Records + Drop, K: KeepFiles<R> + Drop> OpenStores for StoreFiles<'_, R,
             return Err(OpenFault::Held);
         };
         let opened = keeper.open_records(self.files.rt, place.name());
+        let opened = self.files.with_reason(&place, opened);
         let records = self.files.leave_no_log(&place, opened)?;
         self.place = Some(place);
         self.has_opened = true;
@@ -130,6 +131,7 @@ impl<R: Records + Drop, K: KeepFiles<R> + Drop> OpenStores for StoreFiles<'_, R,
             return Err(OpenFault::Held);
         };
         let moved = keeper.migrate_records(self.files.rt, place.name());
+        let moved = self.files.with_reason(&place, moved);
         let Moved { end, migration } = self.files.leave_no_log(&place, moved)?;
         if let End::Closed(files) = &end {
             self.files.remove_log(&place, files);

@@ -1,5 +1,8 @@
--- One piece of a stream: its requests, one after the other, and how the stream ends with it.
-use Rattle.std.proofs.Common.{◌≡◌, ℕ, true, false, List, [], ◌∷◌, ◌++◌, Some, None, Result, Ok, Err, refl, sym, ap, ◌∙◌, subst, append_assoc, append-nil}
+-- One piece of a stream: its requests, one after the other, and how the stream ends with it (`answer_piece`).
+-- The plan: answers and open streams join at the end (`answers_join`, `go_on_join`). `Proceeds` is what the loop keeps: it holds before
+-- the first request (`begins_piece`) and behind one more (`proceeds_on`). Then one lemma for each way out of the loop, `piece_..`: all
+-- are `ends_there`, with the case of `PieceEnds` that is theirs. A new way out is one more such lemma.
+use Rattle.std.proofs.Common.{◌≡◌, ℕ, true, false, List, [], ◌∷◌, ◌++◌, Option, Some, None, Result, Ok, Err, refl, sym, ap, ◌∙◌, subst, append_assoc, append-nil}
 use Rattle.std.specs.Io.KnownBytes.{Appends}
 use Rattle.as2_records.specs.Standing.{Medium, Standing}
 use Rattle.as2_agreement.specs.Agreements.{AgreedValues}
@@ -11,43 +14,43 @@ use Rattle.as2_messages.specs.Replies.{IsReply, refusal_line}
 use Rattle.as2_messages.specs.Requests.{BeginsRequest, BeginsNoRequest}
 use Rattle.as2_http.specs.Responses.{Responds, Unsaid, http_answer}
 use Rattle.as2_http.specs.Sending.{WritesReply, form_of, refusal_form}
-use Rattle.as2_http.specs.Streams.{RequestAndResponse, ServesRequest, AnswersAll, StayOpen, RepliesTo, AnswersPiece, in_reply, in_refusal, for_request, for_reply, for_refusal, end_by, notes}
+use Rattle.as2_http.specs.Streams.{RequestAndResponse, ServesRequest, AnswersAll, StayOpen, RepliesTo, AnswersPiece, PieceEnds, in_reply, in_refusal, for_request, for_reply, for_refusal, end_by, notes}
 use Rattle.as2_messages.specs.declared.request.Request.{Request}
 use Rattle.as2_messages.specs.declared.framing.Refused.{Refused}
 use Rattle.as2_messages.specs.declared.parser.RequestParser.{RequestParser}
 use Rattle.as2_http.specs.declared.response.Response.{Response}
 use Rattle.as2_http.specs.declared.sending.SendFault.{SendFault}
 use Rattle.as2_http.specs.declared.sending.SendFault.TheVariants as send_fault
+use Rattle.as2_http.specs.declared.stream.Served.{Served}
 use Rattle.as2_http.specs.declared.stream.Served.TheVariants as served
 use Rattle.as2_messages.proofs.Framed.{begins_append, refuses_append}
 use Rattle.as2_http.proofs.Noting.{says_nil, says_one, says_trans, says_unwritten}
 
 -- ---- requests, one after the other
 
-pub answers_join : (A : AgreedValues) (moment : ℕ) (s mid t : State) (text rest left replies more : List ℕ) (done later : List RequestAndResponse)
-    → AnswersAll A moment s text done mid replies rest → AnswersAll A moment mid rest later t more left
-    → AnswersAll A moment s text (done ++ later) t (replies ++ more) left
-answers_join A moment s mid t text rest left replies more [] later a b =
-    subst (λ (r : List ℕ). AnswersAll A moment s text later t (r ++ more) left) (sym a.1)
-    (subst (λ (x : List ℕ). AnswersAll A moment s x later t more left) a.2 (subst (λ (x : State). AnswersAll A moment x rest later t more left) a.0 b))
-answers_join A moment s mid t text rest left replies more (x ∷ done) later a b = (
-  a.0,
-  a.1,
-  a.2,
-  a.3 ++ more,
-  a.4,
-  ap (λ (r : List ℕ). r ++ more) a.5 ∙ append_assoc a.1 a.3 more,
-  answers_join A moment a.0 mid t a.2 rest left a.3 more done later a.6 b,
-)
-
-pub answers_one : (A : AgreedValues) (moment : ℕ) (s t : State) (text reply rest : List ℕ) (x : RequestAndResponse)
-    → ServesRequest A moment s text x t reply rest
-    → AnswersAll A moment s text (x ∷ []) t reply rest
-answers_one A moment s t text reply rest x a = (t, reply, rest, [], a, sym (append-nil reply), (refl, refl, refl))
+-- these requests, and then those
+module _ (A : AgreedValues) (moment : ℕ) (mid t : State) (rest left more : List ℕ) (later : List RequestAndResponse)
+    (b : AnswersAll A moment mid rest later t more left) where
+  pub answers_join : (s : State) (text replies : List ℕ) (done : List RequestAndResponse) → AnswersAll A moment s text done mid replies rest
+      → AnswersAll A moment s text (done ++ later) t (replies ++ more) left
+  answers_join s text replies [] a =
+      subst (λ (r : List ℕ). AnswersAll A moment s text later t (r ++ more) left) (sym a.1)
+      (subst (λ (x : List ℕ). AnswersAll A moment s x later t more left) a.2 (subst (λ (x : State). AnswersAll A moment x rest later t more left) a.0 b))
+  answers_join s text replies (x ∷ done) a = (
+    a.0,
+    a.1,
+    a.2,
+    a.3 ++ more,
+    a.4,
+    ap (λ (r : List ℕ). r ++ more) a.5 ∙ append_assoc a.1 a.3 more,
+    answers_join a.0 a.2 a.3 done a.6,
+  )
 
 pub go_on_join : (done later : List RequestAndResponse) → StayOpen done → StayOpen later → StayOpen (done ++ later)
 go_on_join [] later a b = b
 go_on_join (x ∷ done) later a b = (a.0, go_on_join done later a.1 b)
+
+-- ---- what is answered
 
 -- the requests of a piece so far were answered, and the rest of the piece is to be taken
 pub record Proceeds {M : Medium} (A : AgreedValues) (moment : ℕ) (s : State) (text rest left : List ℕ) (p : RequestParser) (c : Standing M)
@@ -72,213 +75,166 @@ pub record IsAnswered {M : Medium} (A : AgreedValues) (moment : ℕ) (mid : Stat
   pub is : IsReply moment (form_of r) (http_answer response) text
   pub said : WritesAndNotes now later text (note moment r response)
 
-pub replied_whole : {M : Medium} {U : Type 0} (A : AgreedValues) (moment : ℕ) (mid : State) (r : Request) (c : Standing M)
-    (now later : SinkAndJournal) (sent : Result U SendFault) (u : U)
-    → sent ≡ Ok u → RepliesTo A moment mid r c now later sent → IsAnswered A moment mid r c now later
-replied_whole {U} A moment mid r c now later sent u is p =
-    let w : WritesReply {U = U} moment (form_of r) (http_answer p.response) now.written later.written (Ok u) =
-    subst (λ (x : Result U SendFault). WritesReply moment (form_of r) (http_answer p.response) now.written later.written x) is p.sends in
-    record { response = p.response; next = p.left; rests = p.rests; responds = p.responds; text = w.0; is = w.1; said = (w.2, p.noted) }
+-- a refusal was written, or as much of it as could be, and noted
+pub record SendsRefusal {U : Type 0} (moment : ℕ) (refused : Refused) (now later : SinkAndJournal) (sent : Result U SendFault) : Type 0 where
+  pub sends : WritesReply moment (refusal_form refused) (refusal (refusal_line refused.reason)) now.written later.written sent
+  pub noted : Appends now.noted later.noted (refusal_note moment refused.reason)
 
--- the request begins the rest of the text, too, where that goes on
-answered_there : {M : Medium} (A : AgreedValues) (moment : ℕ) (mid : State) (text next left : List ℕ) (r : Request) (c : Standing M)
-    (now later : SinkAndJournal)
-    → BeginsRequest text r next → (w : IsAnswered A moment mid r c now later)
-    → ServesRequest A moment mid (text ++ left) (r, w.response) w.next w.text (next ++ left)
-answered_there A moment mid text next left r c now later b w = record { begins = begins_append text left r next b; responds = w.responds; replies = w.is }
+-- the same, where it is known how the writing went
+refused_so : {U : Type 0} {moment : ℕ} {refused : Refused} {now later : SinkAndJournal} {sent went : Result U SendFault} → sent ≡ went
+    → SendsRefusal moment refused now later sent → SendsRefusal moment refused now later went
+refused_so {U} {moment} {refused} {now} {later} is x = subst (λ (y : Result U SendFault). SendsRefusal moment refused now later y) is x
+
+module _ {M : Medium} {U : Type 0} {A : AgreedValues} {moment : ℕ} {mid : State} {r : Request} {c : Standing M} {now later : SinkAndJournal} where
+  -- .. and of a reply
+  replied_so : {sent went : Result U SendFault} → sent ≡ went → RepliesTo A moment mid r c now later sent → RepliesTo A moment mid r c now later went
+  replied_so is x = subst (λ (y : Result U SendFault). RepliesTo A moment mid r c now later y) is x
+
+  pub replied_whole : {sent : Result U SendFault} {u : U} → sent ≡ Ok u → RepliesTo A moment mid r c now later sent → IsAnswered A moment mid r c now later
+  replied_whole {u} is x =
+      let p : RepliesTo A moment mid r c now later (Ok u) = replied_so is x in
+      record {
+        response = p.response;
+        next = p.left;
+        rests = p.rests;
+        responds = p.responds;
+        text = p.sends.0;
+        is = p.sends.1;
+        said = (p.sends.2, p.noted);
+      }
 
 -- ---- a piece
 
-pub begins_piece : {M : Medium} (A : AgreedValues) (moment : ℕ) (s : State) (held piece left : List ℕ) (p : RequestParser) (c : Standing M)
-    (now : SinkAndJournal)
-    → c.Rests s → HasTaken p held
-    → Proceeds A moment s (held ++ piece ++ left) piece left p c now now
-begins_piece A moment s held piece left p c now rests taken =
+pub begins_piece : {M : Medium} {A : AgreedValues} {moment : ℕ} {s : State} {piece left : List ℕ} {p : RequestParser} {c : Standing M}
+    {now : SinkAndJournal} (held : List ℕ)
+    → c.Rests s → HasTaken p held → Proceeds A moment s (held ++ piece ++ left) piece left p c now now
+begins_piece {s} {now} held rests taken =
     record { done = []; mid = s; replies = []; held = held; all = (refl, refl, refl); go_on = tt; rests = rests; taken = taken; said = says_nil now }
 
-pub proceeds_on : {M : Medium} (A : AgreedValues) (moment : ℕ) (s : State) (text rest next left : List ℕ) (p q : RequestParser) (c d : Standing M)
-    (before now later : SinkAndJournal) (r : Request)
-    → (w : Proceeds A moment s text rest left p c before now) → BeginsRequest (w.held ++ rest) r next → HasTaken q [] → IsAnswered A moment w.mid r d now later
-    → r.last ≡ false
-    → Proceeds A moment s text next left q d before later
-proceeds_on A moment s text rest next left p q c d before now later r w b taken a go = record {
-  done = w.done ++ (r, a.response) ∷ [];
-  mid = a.next;
-  replies = w.replies ++ a.text;
-  held = [];
-  all = answers_join A moment s w.mid a.next text (w.held ++ rest ++ left) (next ++ left) w.replies a.text w.done ((r, a.response) ∷ []) w.all
-      (answers_one A moment w.mid a.next (w.held ++ rest ++ left) a.text (next ++ left) (r, a.response)
-      (answered_there A moment w.mid (w.held ++ rest) next left r d now later b a));
-  go_on = go_on_join w.done ((r, a.response) ∷ []) w.go_on (go, tt);
-  rests = a.rests;
-  taken = taken;
-  said = says_one moment before now later w.replies a.text w.done (r, a.response) w.said a.said;
-}
+module _ {M : Medium} {A : AgreedValues} {moment : ℕ} {s : State} {text rest left : List ℕ} {p : RequestParser} {c : Standing M}
+    {before now : SinkAndJournal} (w : Proceeds A moment s text rest left p c before now) where
+  -- ---- one request more is answered
 
-pub piece_last : {M : Medium} (A : AgreedValues) (moment : ℕ) (s : State) (text rest next left : List ℕ) (p q : RequestParser) (c d : Standing M)
-    (before now later : SinkAndJournal) (r : Request)
-    → (w : Proceeds A moment s text rest left p c before now) → BeginsRequest (w.held ++ rest) r next → IsAnswered A moment w.mid r d now later → r.last ≡ true
-    → AnswersPiece A moment s text left q d before later (Some served.Closed)
-piece_last A moment s text rest next left p q c d before now later r w b a ends = record {
-  done = w.done ++ (r, a.response) ∷ [];
-  mid = a.next;
-  last = a.next;
-  replies = w.replies ++ a.text;
-  rest = next ++ left;
-  all = answers_join A moment s w.mid a.next text (w.held ++ rest ++ left) (next ++ left) w.replies a.text w.done ((r, a.response) ∷ []) w.all
-      (answers_one A moment w.mid a.next (w.held ++ rest ++ left) a.text (next ++ left) (r, a.response)
-      (answered_there A moment w.mid (w.held ++ rest) next left r d now later b a));
-  rests = a.rests;
-  ends = ((w.done, (r, a.response), refl, w.go_on, ends), refl, says_one moment before now later w.replies a.text w.done (r, a.response) w.said a.said);
-}
+  module _ {r : Request} {next : List ℕ} {d : Standing M} {later : SinkAndJournal} (b : BeginsRequest (w.held ++ rest) r next)
+      (a : IsAnswered A moment w.mid r d now later) where
+    -- the request begins the rest of the text, too, where that goes on
+    answered_there : ServesRequest A moment w.mid (w.held ++ rest ++ left) (r, a.response) a.next a.text (next ++ left)
+    answered_there = record { begins = begins_append (w.held ++ rest) left r next b; responds = a.responds; replies = a.is }
 
--- no request ends in the rest
-pub piece_open : {M : Medium} (A : AgreedValues) (moment : ℕ) (s : State) (text rest left : List ℕ) (p q : RequestParser) (c : Standing M)
-    (before now : SinkAndJournal)
-    → (w : Proceeds A moment s text rest left p c before now) → HasTaken q (w.held ++ rest) → AnswersPiece A moment s text left q c before now None
-piece_open A moment s text rest left p q c before now w taken = record {
-  done = w.done;
-  mid = w.mid;
-  last = w.mid;
-  replies = w.replies;
-  rest = w.held ++ rest ++ left;
-  all = w.all;
-  rests = w.rests;
-  ends = (w.go_on, refl, w.said, (w.held ++ rest, refl, taken));
-}
+    with_one : AnswersAll A moment s text (w.done ++ (r, a.response) ∷ []) a.next (w.replies ++ a.text) (next ++ left)
+    with_one =
+        answers_join A moment w.mid a.next (w.held ++ rest ++ left) (next ++ left) a.text ((r, a.response) ∷ [])
+        (a.next, a.text, next ++ left, [], answered_there, sym (append-nil a.text), (refl, refl, refl))
+        s text w.replies w.done w.all
 
--- nothing is left of the piece
-pub piece_taken : {M : Medium} (A : AgreedValues) (moment : ℕ) (s : State) (text rest left : List ℕ) (p : RequestParser) (c : Standing M)
-    (before now : SinkAndJournal)
-    → Proceeds A moment s text rest left p c before now → rest ≡ [] → AnswersPiece A moment s text left p c before now None
-piece_taken A moment s text rest left p c before now w none =
-    piece_open A moment s text rest left p p c before now w (subst (HasTaken p) (sym (append-nil w.held) ∙ ap (λ (t : List ℕ). w.held ++ t) (sym none)) w.taken)
+    said_of_one : WritesAndNotes before later (w.replies ++ a.text) (notes moment (w.done ++ (r, a.response) ∷ []))
+    said_of_one = says_one moment before now later w.replies a.text w.done (r, a.response) w.said a.said
 
--- memory for a request was wanting
-pub piece_unread : {M : Medium} (A : AgreedValues) (moment : ℕ) (s : State) (text rest left : List ℕ) (p q : RequestParser) (c : Standing M)
-    (before now : SinkAndJournal)
-    → Proceeds A moment s text rest left p c before now → AnswersPiece A moment s text left q c before now (Some served.Memory)
-piece_unread A moment s text rest left p q c before now w = record {
-  done = w.done;
-  mid = w.mid;
-  last = w.mid;
-  replies = w.replies;
-  rest = w.held ++ rest ++ left;
-  all = w.all;
-  rests = w.rests;
-  ends = (w.go_on, for_request refl w.said);
-}
-
--- a reply wasn't written whole
-pub piece_cut : {M : Medium} {U : Type 0} (A : AgreedValues) (moment : ℕ) (s : State) (text rest next left : List ℕ) (p q : RequestParser)
-    (c d : Standing M) (before now later : SinkAndJournal) (r : Request)
-    (sent : Result U SendFault) (fault : SendFault) → (w : Proceeds A moment s text rest left p c before now)
-    → BeginsRequest (w.held ++ rest) r next → sent ≡ Err fault
-    → RepliesTo A moment w.mid r d now later sent → AnswersPiece A moment s text left q d before later (Some (end_by fault))
-piece_cut {U} A moment s text rest next left p q c d before now later r sent send_fault.Write w b is x =
-    let e : WritesReply {U = U} moment (form_of r) (http_answer x.response) now.written later.written (Err send_fault.Write) =
-    subst (λ (y : Result U SendFault). WritesReply moment (form_of r) (http_answer x.response) now.written later.written y) is x.sends in
-    record {
-      done = w.done;
-      mid = w.mid;
-      last = x.left;
-      replies = w.replies;
-      rest = w.held ++ rest ++ left;
-      all = w.all;
-      rests = x.rests;
-      ends = (
-        w.go_on,
-        in_reply r (next ++ left) x.response e.0 e.2.part e.2.missing (begins_append (w.held ++ rest) left r next b) x.responds e.1 e.2.cut
-            (says_trans before now later w.replies e.2.part (notes moment w.done) (note moment r x.response) w.said (e.2.appended, x.noted)),
-      );
-    }
-piece_cut {U} A moment s text rest next left p q c d before now later r sent send_fault.Memory w b is x =
-    let e : WritesReply {U = U} moment (form_of r) (http_answer x.response) now.written later.written (Err send_fault.Memory) =
-    subst (λ (y : Result U SendFault). WritesReply moment (form_of r) (http_answer x.response) now.written later.written y) is x.sends in
-    record {
-      done = w.done;
-      mid = w.mid;
-      last = x.left;
-      replies = w.replies;
-      rest = w.held ++ rest ++ left;
-      all = w.all;
-      rests = x.rests;
-      ends = (
-        w.go_on,
-        for_reply r (next ++ left) x.response (begins_append (w.held ++ rest) left r next b) x.responds
-            (says_unwritten before now later w.replies (notes moment w.done) (note moment r x.response) w.said (e, x.noted)),
-      );
+    pub proceeds_on : {q : RequestParser} → HasTaken q [] → r.last ≡ false → Proceeds A moment s text next left q d before later
+    proceeds_on taken go = record {
+      done = w.done ++ (r, a.response) ∷ [];
+      mid = a.next;
+      replies = w.replies ++ a.text;
+      held = [];
+      all = with_one;
+      go_on = go_on_join w.done ((r, a.response) ∷ []) w.go_on (go, tt);
+      rests = a.rests;
+      taken = taken;
+      said = said_of_one;
     }
 
--- a refusal is written
-pub piece_refused : {M : Medium} {U : Type 0} (A : AgreedValues) (moment : ℕ) (s : State) (text rest left : List ℕ) (p q : RequestParser)
-    (c : Standing M) (before now later : SinkAndJournal) (refused : Refused)
-    (sent : Result U SendFault) (u : U) → (w : Proceeds A moment s text rest left p c before now) → BeginsNoRequest (w.held ++ rest) refused → sent ≡ Ok u
-    → WritesReply moment (refusal_form refused) (refusal (refusal_line refused.reason)) now.written later.written sent
-    → Appends now.noted later.noted (refusal_note moment refused.reason) → AnswersPiece A moment s text left q c before later (Some served.BadFraming)
-piece_refused {U} A moment s text rest left p q c before now later refused sent u w b is x noted =
-    let e : WritesReply {U = U} moment (refusal_form refused) (refusal (refusal_line refused.reason)) now.written later.written (Ok u) =
-    subst (λ (y : Result U SendFault). WritesReply moment (refusal_form refused) (refusal (refusal_line refused.reason)) now.written later.written y) is x in
-    record {
-      done = w.done;
-      mid = w.mid;
-      last = w.mid;
-      replies = w.replies;
-      rest = w.held ++ rest ++ left;
-      all = w.all;
-      rests = w.rests;
-      ends = (
-        w.go_on,
-        refl,
-        record {
-          refused = refused;
-          refuses = refuses_append (w.held ++ rest) left refused b;
-          text = e.0;
-          is = e.1;
-          said = says_trans before now later w.replies e.0 (notes moment w.done) (refusal_note moment refused.reason) w.said (e.2, noted);
-        },
-      );
+    pub piece_last : {q : RequestParser} → r.last ≡ true → AnswersPiece A moment s text left q d before later (Some served.Closed)
+    piece_last ends = record {
+      done = w.done ++ (r, a.response) ∷ [];
+      mid = a.next;
+      last = a.next;
+      replies = w.replies ++ a.text;
+      rest = next ++ left;
+      all = with_one;
+      rests = a.rests;
+      ends = ((w.done, (r, a.response), refl, w.go_on, ends), refl, said_of_one);
     }
 
-pub piece_refusal_cut : {M : Medium} {U : Type 0} (A : AgreedValues) (moment : ℕ) (s : State) (text rest left : List ℕ) (p q : RequestParser)
-    (c : Standing M) (before now later : SinkAndJournal) (refused : Refused)
-    (sent : Result U SendFault) (fault : SendFault) → (w : Proceeds A moment s text rest left p c before now)
-    → BeginsNoRequest (w.held ++ rest) refused → sent ≡ Err fault
-    → WritesReply moment (refusal_form refused) (refusal (refusal_line refused.reason)) now.written later.written sent
-    → Appends now.noted later.noted (refusal_note moment refused.reason) → AnswersPiece A moment s text left q c before later (Some (end_by fault))
-piece_refusal_cut {U} A moment s text rest left p q c before now later refused sent send_fault.Write w b is x noted =
-    let e : WritesReply {U = U} moment (refusal_form refused) (refusal (refusal_line refused.reason)) now.written later.written
-    (Err send_fault.Write) =
-    subst (λ (y : Result U SendFault). WritesReply moment (refusal_form refused) (refusal (refusal_line refused.reason)) now.written later.written y) is x in
-    record {
-      done = w.done;
-      mid = w.mid;
-      last = w.mid;
-      replies = w.replies;
-      rest = w.held ++ rest ++ left;
-      all = w.all;
-      rests = w.rests;
-      ends = (
-        w.go_on,
-        in_refusal refused e.0 e.2.part e.2.missing (refuses_append (w.held ++ rest) left refused b) refl e.1 e.2.cut
-            (says_trans before now later w.replies e.2.part (notes moment w.done) (refusal_note moment refused.reason) w.said (e.2.appended, noted)),
-      );
-    }
-piece_refusal_cut {U} A moment s text rest left p q c before now later refused sent send_fault.Memory w b is x noted =
-    let e : WritesReply {U = U} moment (refusal_form refused) (refusal (refusal_line refused.reason)) now.written later.written
-    (Err send_fault.Memory) =
-    subst (λ (y : Result U SendFault). WritesReply moment (refusal_form refused) (refusal (refusal_line refused.reason)) now.written later.written y) is x in
-    record {
-      done = w.done;
-      mid = w.mid;
-      last = w.mid;
-      replies = w.replies;
-      rest = w.held ++ rest ++ left;
-      all = w.all;
-      rests = w.rests;
-      ends = (
-        w.go_on,
-        for_refusal refused (refuses_append (w.held ++ rest) left refused b) refl
-            (says_unwritten before now later w.replies (notes moment w.done) (refusal_note moment refused.reason) w.said (e, noted)),
-      );
-    }
+  -- ---- no request more is
+
+  ends_there : {q : RequestParser} {d : Standing M} {later : SinkAndJournal} {end : Option Served} (last : State) → d.Rests last
+      → PieceEnds A moment w.done w.mid w.replies (w.held ++ rest ++ left) left q before later last end
+      → AnswersPiece A moment s text left q d before later end
+  ends_there last rests ends = record {
+    done = w.done;
+    mid = w.mid;
+    last = last;
+    replies = w.replies;
+    rest = w.held ++ rest ++ left;
+    all = w.all;
+    rests = rests;
+    ends = ends;
+  }
+
+  -- no request ends in the rest
+  pub piece_open : {q : RequestParser} → HasTaken q (w.held ++ rest) → AnswersPiece A moment s text left q c before now None
+  piece_open taken = ends_there w.mid w.rests (w.go_on, refl, w.said, (w.held ++ rest, refl, taken))
+
+  -- nothing is left of the piece
+  pub piece_taken : rest ≡ [] → AnswersPiece A moment s text left p c before now None
+  piece_taken none = piece_open (subst (HasTaken p) (sym (append-nil w.held) ∙ ap (λ (t : List ℕ). w.held ++ t) (sym none)) w.taken)
+
+  -- memory for a request was wanting
+  pub piece_unread : {q : RequestParser} → AnswersPiece A moment s text left q c before now (Some served.Memory)
+  piece_unread = ends_there w.mid w.rests (w.go_on, for_request refl w.said)
+
+  -- a reply wasn't written whole
+  module _ {U : Type 0} {r : Request} {next : List ℕ} {q : RequestParser} {d : Standing M} {later : SinkAndJournal}
+      (b : BeginsRequest (w.held ++ rest) r next) where
+    cut_by : (fault : SendFault) → RepliesTo {U = U} A moment w.mid r d now later (Err fault)
+        → AnswersPiece A moment s text left q d before later (Some (end_by fault))
+    cut_by send_fault.Write x =
+        let e = x.sends in
+        let there = begins_append (w.held ++ rest) left r next b in
+        let own = note moment r x.response in
+        let said = says_trans before now later w.replies e.2.part (notes moment w.done) own w.said (e.2.appended, x.noted) in
+        ends_there x.left x.rests (w.go_on, in_reply r (next ++ left) x.response e.0 e.2.part e.2.missing there x.responds e.1 e.2.cut said)
+    cut_by send_fault.Memory x =
+        let there = begins_append (w.held ++ rest) left r next b in
+        let said = says_unwritten before now later w.replies (notes moment w.done) (note moment r x.response) w.said (x.sends, x.noted) in
+        ends_there x.left x.rests (w.go_on, for_reply r (next ++ left) x.response there x.responds said)
+
+    pub piece_cut : {sent : Result U SendFault} {fault : SendFault} → sent ≡ Err fault → RepliesTo A moment w.mid r d now later sent
+        → AnswersPiece A moment s text left q d before later (Some (end_by fault))
+    piece_cut {fault} is x = cut_by fault (replied_so is x)
+
+  -- no request begins there: a refusal is noted, and written, whole or in part
+  module _ {refused : Refused} (b : BeginsNoRequest (w.held ++ rest) refused) where
+    refuses_there : BeginsNoRequest (w.held ++ rest ++ left) refused
+    refuses_there = refuses_append (w.held ++ rest) left refused b
+
+    pub piece_refused : {U : Type 0} {q : RequestParser} {later : SinkAndJournal} {sent : Result U SendFault} {u : U} → sent ≡ Ok u
+        → SendsRefusal moment refused now later sent
+        → AnswersPiece A moment s text left q c before later (Some served.BadFraming)
+    piece_refused {later} {u} is x =
+        let e : SendsRefusal moment refused now later (Ok u) = refused_so is x in
+        let own = refusal_note moment refused.reason in
+        let said = says_trans before now later w.replies e.sends.0 (notes moment w.done) own w.said (e.sends.2, e.noted) in
+        ends_there w.mid w.rests (
+          w.go_on,
+          refl,
+          record { refused = refused; refuses = refuses_there; text = e.sends.0; is = e.sends.1; said = said },
+        )
+
+    refusal_cut_by : {U : Type 0} {q : RequestParser} {later : SinkAndJournal} (fault : SendFault)
+        → SendsRefusal {U = U} moment refused now later (Err fault)
+        → AnswersPiece A moment s text left q c before later (Some (end_by fault))
+    refusal_cut_by {later} send_fault.Write x =
+        let e = x.sends in
+        let own = refusal_note moment refused.reason in
+        let said = says_trans before now later w.replies e.2.part (notes moment w.done) own w.said (e.2.appended, x.noted) in
+        ends_there w.mid w.rests (w.go_on, in_refusal refused e.0 e.2.part e.2.missing refuses_there refl e.1 e.2.cut said)
+    refusal_cut_by {later} send_fault.Memory x =
+        let own = refusal_note moment refused.reason in
+        let said = says_unwritten before now later w.replies (notes moment w.done) own w.said (x.sends, x.noted) in
+        ends_there w.mid w.rests (w.go_on, for_refusal refused refuses_there refl said)
+
+    pub piece_refusal_cut : {U : Type 0} {q : RequestParser} {later : SinkAndJournal} {sent : Result U SendFault} {fault : SendFault} → sent ≡ Err fault
+        → SendsRefusal moment refused now later sent
+        → AnswersPiece A moment s text left q c before later (Some (end_by fault))
+    piece_refusal_cut {fault} is x = refusal_cut_by fault (refused_so is x)

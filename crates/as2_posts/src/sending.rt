@@ -1,13 +1,13 @@
 //! Documents that are sent: the identifier that one gets, and the request that carries it to its partner (RFC 4130, sections
 //! 5.3 and 6; RFC 9112, section 3).
-ghost use Rattle.std.specs.Prelude.{◌≡◌, ◌⊎◌, ◌++◌, List, ℕ, codes, option_map, IfOk, IfErr, OnOk};
+ghost use Rattle.std.specs.Prelude.{◌≡◌, ◌++◌, List, ℕ, codes, option_map, IfOk, OnOk};
+ghost use Rattle.as2_names.specs.Identifiers.{IsIdentifier};
 ghost use Rattle.as2_text.specs.Addresses.{IsAuthority};
 ghost use Rattle.as2_exchange.specs.Jobs.{asking_fields, identifier_in_brackets, document_request, identifier_value, request_opening, request_fields, return_field};
-ghost use Rattle.as2_exchange.specs.declared.fault.StoreFault.TheVariants as fault;
 ghost use Rattle.as2_posts.specs.Sending.{content_fields, name_fields, request_to};
 
 use as2_agreement::{Agreements, Asked, Partner, UrlText};
-use as2_exchange::{Bytes, Job, OutEntry, StoreFault};
+use as2_exchange::{Bytes, Job, OutEntry};
 use as2_mdn::add_line;
 use as2_mic::Pieces;
 use as2_text::{AsName, IdFault, Memory, MessageId, Url};
@@ -19,7 +19,8 @@ pub const HEAD: usize = 4_096;
 
 /// The text of the identifier of the document of this number.
 fn identifier_text(alloc: Global, agreements: &Agreements, number: u64) -> Result<Vec<u8>, Memory>
-    ensures { IfOk result (λ text. text.items ≡ identifier_in_brackets (identifier_value agreements.now number)) }
+    ensures text { IfOk result (λ text. text.items ≡ identifier_in_brackets (identifier_value agreements.now number)) }
+    ensures identifier { IfOk result (λ text. IsIdentifier text.items) }
 {
     let mut text = Vec::from_slice(alloc, b"<out-")?;
     text.extend_from_slice(Buffer::new().format(number).as_bytes())?;
@@ -30,16 +31,15 @@ fn identifier_text(alloc: Global, agreements: &Agreements, number: u64) -> Resul
 }
 
 /// The identifier of the document of this number: `<out-N@domain>`.
-pub fn out_id(alloc: Global, agreements: &Agreements, number: u64) -> Result<MessageId, StoreFault>
-    ensures id { IfOk result (λ id. id ≡ identifier_in_brackets (identifier_value agreements.now number)) }
-    ensures fault { IfErr result (λ f. (f ≡ fault.Memory) ⊎ (f ≡ fault.Refused)) }
+pub fn out_id(alloc: Global, agreements: &Agreements, number: u64) -> Result<MessageId, Memory>
+    ensures { IfOk result (λ id. id ≡ identifier_in_brackets (identifier_value agreements.now number)) }
 {
     let text = identifier_text(alloc, agreements, number)?;
     match MessageId::parse(alloc, &text) {
-        // No blank stands at its ends, so it is read whole.
-        Ok(id) if id.as_received().as_bytes() == text.as_slice() => Ok(id),
-        Err(IdFault::Memory) => Err(StoreFault::Memory),
-        _ => Err(StoreFault::Refused),
+        Ok(id) => Ok(id),
+        Err(IdFault::Memory) => Err(Memory),
+        // The text is an identifier, so nothing else can be wrong with it.
+        Err(_) => unreachable!(),
     }
 }
 

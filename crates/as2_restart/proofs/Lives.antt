@@ -10,7 +10,7 @@ use Rattle.as2_exchange.specs.State.{State, Version, document, empty, is_settled
 use Rattle.as2_exchange.specs.declared.outbox.OutEntry.{OutEntry}
 use Rattle.as2_exchange.proofs.Finds.{all_found}
 use Rattle.as2_exchange.proofs.Lists.{all_map}
-use Rattle.as2_exchange.proofs.Success.{state_of_success}
+use Rattle.as2_exchange.proofs.Success.{class_of_success}
 use Rattle.as2_station.specs.Theorem.{EndsByHistory, IsSuccessful}
 use Rattle.as2_station.proofs.ByHistory.{ends_by_history, run_then, stands_by_history}
 use Rattle.as2_restart.specs.Restarts.{ComesInTurn}
@@ -27,7 +27,7 @@ settled : (A : Agreements) (s : State) (k : ℕ) (d : OutEntry) → IsWellFormed
 settled A s k d formed is successful =
     let entry : IsEntry d = all_found IsEntry (λ (e : OutEntry). e) _ s.outbox d
     (all_map IsEntry (λ (e : OutEntry). e) (λ e it. it) s.outbox formed.sent.entries) is in
-    entry.evidence ∙ ap is_by_receipt ((state_of_success d.detail).0 successful)
+    entry.evidence ∙ ap is_by_receipt ((class_of_success d.detail).0 successful)
 
 as_it_stood : (d : OutEntry) (o : Option OutEntry) → class_of d.detail ≡ S → IsSomeAnd o (λ (e : OutEntry). (e.detail ≡ d.detail) × (e.evidence ≡ d.evidence))
     → IsSomeAnd o (λ (e : OutEntry). class_of e.detail ≡ S)

@@ -26,7 +26,7 @@ use Rattle.as2_exchange.proofs.Again.{repeat_law}
 use Rattle.as2_exchange.proofs.Runs.{as_submitted, law, same_facts, waiting_law}
 use Rattle.as2_exchange.proofs.States.{formed}
 use Rattle.as2_exchange.proofs.Steady.{run_version}
-use Rattle.as2_exchange.proofs.Success.{settled_stays_law, state_of_success, success_confirmed}
+use Rattle.as2_exchange.proofs.Success.{settled_stays_law, class_of_success, success_confirmed}
 use Rattle.as2_exchange.proofs.Ticking.{ticked_counts}
 use Rattle.as2_records.specs.Calls.{Lasts}
 use Rattle.std.specs.Prelude.{IsTrue}
@@ -66,7 +66,7 @@ success_by A v first trace s run k None (Some it) is known =
     absurd (found_by_both (first_of (submission k) (accepted_events v trace)) _ it known
     (sym (as_submitted A v first trace s run k) ∙ ap (option_map submission_of) is))
 success_by A v first trace s run k (Some d) (Some it) is known =
-    let state = state_of_success d.detail in
+    let state = class_of_success d.detail in
     let by = success_confirmed A v first trace s run k d is it.0 it.1 known in
     (λ h. by.0 (state.0 h), λ h. state.1 (by.1 h))
 

@@ -13,9 +13,9 @@
 --                                    SQLite as2_store/specs/Stands.antt: the tables of the connection stand for it
 --   .. answers are those of          Run, Run.antt: an answered event is a step of the machine, and one that failed changes nothing
 --   the exchange machine             step, Step.antt, over State, State.antt; empty: a store without entries, of a version
---   the accepted ones                accepted, Run.antt: those that were answered, by a refusal too; no fault of the store is an answer
+--   the accepted ones                accepted_events, Run.antt: those that were answered, by a refusal too; no fault of the store is an answer
 --   a document                       document, State.antt, by its number
---   stands as successful             IsSuccessful, below: state_of, as2_mdn/specs/Details.antt, is S
+--   stands as successful             IsSuccessful, below: class_of, as2_mdn/specs/Details.antt, is S
 --   the first receipt after its      first_receipt, History.antt, among the facts of the document, which concerns picks from the
 --     first try                      accepted events without any state
 --   that bears its partner's AS2     bears, Receipts.antt

@@ -54,6 +54,7 @@ pub fn entries<S: Alter>(conn: &mut Connection<S>, alloc: Global) -> Result<Vec<
             Err(_) => return Err(StoreFault::Memory),
         }
     }
+    // Not reached: each row has a number of its own below END_OF_NUMBERS, so that the rows end before the turns do.
     Err(StoreFault::Refused)
 }
 
@@ -137,6 +138,7 @@ fn documents_between<S: Alter>(
         let document = read_out_row(alloc, row).map_err(|fault| unread_row(fault, place))?;
         list_if(&mut documents, wanted, document)?;
     }
+    // Not reached: each row has a number of its own below END_OF_NUMBERS, so that the rows end before the turns do.
     Err(StoreFault::Refused)
 }
 

@@ -138,7 +138,7 @@ impl<S: Alter> Store<S> {
         conn
     }
 
-    /// The numbers that the next entries get.
+    /// The numbers that the next entries get. Answers Memory, Disk, Refused or Damaged.
     pub fn next_numbers(&mut self) -> Result<NextNumbers, StoreFault>
         ensures numbers { ReadsTables (λ s next. AreNext next s) (state S.Store self.old) (state S.Store self.new)
             result }
@@ -165,7 +165,8 @@ impl<S: Alter> Store<S> {
     }
 
     /// Adds an entry to the inbox under the next number of a receipt, as `next_numbers` gives it. Answers Full exactly where the
-    /// number is past 999,999,999,999, and then touches nothing; Refused where it isn't the next; Memory, Disk or Refused. A fault leaves the state.
+    /// number is past 999,999,999,999, and then touches nothing; Refused where it isn't the next, where another entry has its sender, receiver
+    /// and identifier value, and where a number of it fits no column; Memory, Disk or Refused. A fault leaves the state.
     pub fn add_in(&mut self, entry: &InEntry) -> Result<(), StoreFault>
         ensures added { WritesTables (state_with entry.now) (state S.Store self.old) (state S.Store self.new) result }
         ensures full { IfErr result (λ f. f ≡ Full → end_of_numbers ≤ entry.now.number) }
@@ -184,8 +185,8 @@ impl<S: Alter> Store<S> {
 
     /// Adds a document that no receipt has settled to the outbox under the next number of a document, as `next_numbers` gives it.
     /// Answers Full exactly where the number is past 999,999,999,999, and then touches nothing; Refused where it isn't the next, where
-    /// another document has an identifier of its value, and where it is begun and not tried, or tried and not begun; Memory, Disk or
-    /// Refused. A fault leaves the state.
+    /// another document has an identifier of its value, where a number of it fits no column, and where it is begun and not tried, or tried and
+    /// not begun; Memory, Disk or Refused. A fault leaves the state.
     pub fn add_out(&mut self, entry: &OutEntry) -> Result<(), StoreFault>
         requires unsettled { entry.now.evidence ≡ None }
         ensures added { WritesTables (added_document entry.now) (state S.Store self.old) (state S.Store self.new)
@@ -223,8 +224,8 @@ impl<S: Alter> Store<S> {
         owed::set(&mut self.conn, number, anew).map_err(fault_of)
     }
 
-    /// Sets how far the receipt of the entry of the inbox of this number, if there is one, has come. Answers Memory, Disk or
-    /// Refused, and then the state stays.
+    /// Sets how far the receipt of the entry of the inbox of this number, if there is one, has come. Answers Refused where a number of it
+    /// fits no column; Memory, Disk or Refused; and then the state stays.
     pub fn set_receipt(&mut self, number: u64, progress: ReceiptProgress) -> Result<(), StoreFault>
         ensures set { WritesTables (set_receipt_in number progress) (state S.Store self.old) (state S.Store self.new)
             result }
@@ -237,18 +238,23 @@ impl<S: Alter> Store<S> {
     }
 
     /// Time passes: each document whose receipt is overdue at this moment passes into `Overdue`, and each whose last try is into
-    /// `TriesUsed`. Answers how many there are; Memory, Disk or Refused, and then the state stays.
+    /// `TriesUsed`. Answers how many there are; Memory, Disk, Refused or Damaged, and then the state stays.
     pub fn expire(&mut self, moment: Moment) -> Result<u64, StoreFault>
         ensures passed { WritesTables (ticked_in moment) (state S.Store self.old) (state S.Store self.new) result }
         ensures counted { HasCleanDisk (state S.Store self.new)
             → IfOk result (TicksTablesAs moment (state S.Store self.old)) }
         ensures fault { IfErr result (λ f. may_come f ≡ true) }
+        ensures row { IfErr result (λ f. comes_of (is_row_of table.Waiting) f ≡ true) }
     {
-        expire(&mut self.conn, moment).map_err(fault_of)
+        let place = RowPlace {
+            table: Table::Waiting,
+            number: 0,
+        };
+        expire(&mut self.conn, moment).map_err(|error| unread_column(error, place))
     }
 
-    /// Sets how far the document of this number has come. Answers Refused where no document has the number; Memory, Disk or
-    /// Refused; and then the state stays.
+    /// Sets how far the document of this number has come. Answers Refused where no document has the number, and where a number of it fits no
+    /// column; Memory, Disk or Refused; and then the state stays.
     pub fn set_out(&mut self, number: u64, progress: Progress) -> Result<(), StoreFault>
         ensures set { WritesTables (set_out_in number progress) (state S.Store self.old) (state S.Store self.new)
             result }
@@ -298,7 +304,8 @@ impl<S: Alter> Store<S> {
         settle(&mut self.conn, number, detail, evidence, &body).map_err(fault_of)
     }
 
-    /// The entry of the inbox that this sender posted to this receiver under an identifier of this value, if there is one.
+    /// The entry of the inbox that this sender posted to this receiver under an identifier of this value, if there is one, with its
+    /// content. Answers Memory, Disk, Refused or Damaged.
     pub fn find_in(
         &mut self,
         alloc: Global,
@@ -321,7 +328,7 @@ impl<S: Alter> Store<S> {
         shown_entry(&mut self.conn, alloc, &rows)
     }
 
-    /// The entry of the inbox of this number, if there is one.
+    /// The entry of the inbox of this number, if there is one, with its content. Answers Memory, Disk, Refused or Damaged.
     pub fn find_in_number(
         &mut self,
         alloc: Global,

@@ -7,9 +7,7 @@ use Rattle.as2_http.proofs.Serving.{between_first, runs_none, serves_long, serve
 use Rattle.as2_http.proofs.stream.serve_stream.Goals as goal
 
 pub returns-then-is_err-clause-serves : goal.returns-then-is_err-clause-serves
-returns-then-is_err-clause-serves g c = λ clean s rests input known.
-    serves_nothing c.args.agreements.now c.args.moment s input (g.K.Records.shows c.args.station.now) (g.R.Source.left c.args.source.now)
-    (sink_and_journal (g.W.Sink.written c.args.sink.now) (g.J.Journal.noted c.args.journal.now)) (g.R.Source.calls c.args.source.now) rests known
+returns-then-is_err-clause-serves g c = λ clean s rests input known. serves_nothing (g.K.Records.shows c.args.station.now) rests known
 
 pub returns-then-is_err-clause-posts : goal.returns-then-is_err-clause-posts
 returns-then-is_err-clause-posts g c = λ clean s rests. (s, rests, runs_none c.args.agreements.now c.args.moment s)
@@ -22,23 +20,15 @@ loop-init g c = (
   omega arith,
   omega arith,
   ([], c.new-parser.ensures),
-  λ clean s rests input known.
-      between_first c.args.agreements.now c.args.moment s input c.new-parser.result (g.K.Records.shows c.args.station.now)
-      (g.R.Source.left c.args.source.now) (sink_and_journal (g.W.Sink.written c.args.sink.now) (g.J.Journal.noted c.args.journal.now))
-      (g.R.Source.calls c.args.source.now) rests c.new-parser.ensures known,
+  λ clean s rests input known. between_first (g.K.Records.shows c.args.station.now) rests known c.new-parser.ensures,
   λ clean s rests. (s, rests, runs_none c.args.agreements.now c.args.moment s),
 )
 
 pub returns-in-Some-clause-serves : goal.returns-in-Some-clause-serves
 returns-in-Some-clause-serves g c = λ clean s rests input known.
     let w = c.loop.invariant.6 (c.answer_next-end.ensures.clean clean) s rests input known in
-    subst (λ (x : Option Served). AnswersNext c.args.agreements.now c.args.moment s input c.answer_next-end.new.parser
-    (g.K.Records.shows c.answer_next-end.new.station) (g.R.Source.left c.answer_next-end.new.source)
-    (sink_and_journal (g.W.Sink.written c.args.sink.now) (g.J.Journal.noted c.args.journal.now))
-    (sink_and_journal (g.W.Sink.written c.answer_next-end.new.sink) (g.J.Journal.noted c.answer_next-end.new.journal))
-    (g.R.Source.calls c.args.source.now) (g.R.Source.calls c.answer_next-end.new.source) x) c.in-Some.is
-    (c.answer_next-end.ensures.answered clean s input (sink_and_journal (g.W.Sink.written c.args.sink.now) (g.J.Journal.noted c.args.journal.now))
-    (g.R.Source.calls c.args.source.now) w)
+    let before = sink_and_journal (g.W.Sink.written c.args.sink.now) (g.J.Journal.noted c.args.journal.now) in
+    rw c.in-Some.is at (c.answer_next-end.ensures.answered clean s input before (g.R.Source.calls c.args.source.now) w)
 
 pub returns-in-Some-clause-posts : goal.returns-in-Some-clause-posts
 returns-in-Some-clause-posts g c = λ clean s rests.
@@ -55,22 +45,13 @@ loop-preserved g c = (
   c.answer_next-end.ensures.held (search rules),
   λ clean s rests input known.
       let w = c.loop.invariant.6 (c.answer_next-end.ensures.clean clean) s rests input known in
+      let before = sink_and_journal (g.W.Sink.written c.args.sink.now) (g.J.Journal.noted c.args.journal.now) in
       let none : c.answer_next-end.result ≡ None = search rules in
-      subst (λ (x : Option Served). AnswersNext c.args.agreements.now c.args.moment s input c.answer_next-end.new.parser
-      (g.K.Records.shows c.answer_next-end.new.station) (g.R.Source.left c.answer_next-end.new.source)
-      (sink_and_journal (g.W.Sink.written c.args.sink.now) (g.J.Journal.noted c.args.journal.now))
-      (sink_and_journal (g.W.Sink.written c.answer_next-end.new.sink) (g.J.Journal.noted c.answer_next-end.new.journal))
-      (g.R.Source.calls c.args.source.now) (g.R.Source.calls c.answer_next-end.new.source) x) none
-      (c.answer_next-end.ensures.answered clean s input
-      (sink_and_journal (g.W.Sink.written c.args.sink.now) (g.J.Journal.noted c.args.journal.now)) (g.R.Source.calls c.args.source.now) w),
+      rw none at (c.answer_next-end.ensures.answered clean s input before (g.R.Source.calls c.args.source.now) w),
   λ clean s rests.
       let before = c.loop.invariant.7 (c.answer_next-end.ensures.clean clean) s rests in
       c.answer_next-end.ensures.posts clean s before.0 before.1 before.2,
 )
 
 pub returns-clause-serves : goal.returns-clause-serves
-returns-clause-serves g c = λ clean s rests input known.
-    serves_long c.args.agreements.now c.args.moment s input c.loop.parser (g.K.Records.shows c.loop.station) (g.R.Source.left c.loop.source)
-    (sink_and_journal (g.W.Sink.written c.args.sink.now) (g.J.Journal.noted c.args.journal.now))
-    (sink_and_journal (g.W.Sink.written c.loop.sink) (g.J.Journal.noted c.loop.journal))
-    (g.R.Source.calls c.args.source.now) (g.R.Source.calls c.loop.source) (c.loop.invariant.6 clean s rests input known)
+returns-clause-serves g c = λ clean s rests input known. serves_long (c.loop.invariant.6 clean s rests input known)
