@@ -11,9 +11,9 @@ pub record Pushed (before now : Option (List ℕ)) (bytes rest : List ℕ) : Typ
   pub cut : bytes ≡ part ++ rest
   pub appended : Appends before now part
 
-pub pushed_more : (before mid now : Option (List ℕ)) (bytes rest : List ℕ) (n : ℕ) → Pushed before mid bytes rest → Appends mid now (take n rest)
+pub pushed_more : {before mid now : Option (List ℕ)} {bytes rest : List ℕ} (n : ℕ) → Pushed before mid bytes rest → Appends mid now (take n rest)
     → Pushed before now bytes (drop n rest)
-pushed_more before mid now bytes rest n w a = record {
+pushed_more {before} {mid} {now} {rest} n w a = record {
   part = w.part ++ take n rest;
   cut = w.cut ∙ ap (λ (t : List ℕ). w.part ++ t) (sym (take-append-drop n rest)) ∙ sym (append_assoc w.part (take n rest) (drop n rest));
   appended = Appends-trans before mid now w.part (take n rest) w.appended a;

@@ -1,9 +1,8 @@
--- A whole stream, read by read (`answer_next`, `serve_stream`); one piece is in Streaming.antt. First: what was answered is a run of the
--- machine (`taken_on`). Then `BetweenReads` from the start (`between_first`) and behind a piece (`between_on`). Then `Serves` at each end:
--- in a piece (`serving_ends`, by `ends_on`), or outside one (`serves_..`).
--- A new end: a case in `left_runs` and `ends_on`, or a `serves_..`. A new field: of `BetweenReads` in `between_first` and `between_on`; of
--- `Serves` in `serves_behind` and `serves_nothing`.
-use Rattle.std.proofs.Common.{◌≡◌, ℕ, true, List, [], ◌∷◌, ◌++◌, ◌⊎◌, ◌+◌, ◌<◌, ◌≤◌, length, Option, Some, None, refl, sym, ap, ◌∙◌, subst, append_assoc, append-nil, inl, inr, arith}
+-- A whole stream, read by read: the contracts of `answer_next` and `serve_stream`. One piece of it is in Streaming.antt.
+-- The plan: what was answered is a run of the machine (`taken_on`). `BetweenReads` holds before the first read (`between_first`) and
+-- behind a piece (`between_on`). Each end of the stream gives `Serves`: one in a piece (`ends_on`), and one outside it (`serves_..`).
+-- A new end is a case of `left_runs` and `ends_on`, or a `serves_..` more. A new field of `Serves` is made in `serves_behind` alone.
+use Rattle.std.proofs.Common.{◌≡◌, ℕ, List, [], ◌∷◌, ◌++◌, ◌⊎◌, ◌+◌, ◌<◌, ◌≤◌, length, Option, Some, None, refl, sym, ap, ◌∙◌, subst, append_assoc, append-nil, inl, inr, arith}
 use Rattle.std.specs.Io.KnownBytes.{Appends, Consumes, IsAtEnd, Keeps}
 use Rattle.as2_records.specs.Standing.{Medium, Standing}
 use Rattle.as2_agreement.specs.Agreements.{AgreedValues}
@@ -18,7 +17,7 @@ use Rattle.as2_http.specs.StreamReads.{NeedsMore, BetweenReads, AnswersNext, Run
 use Rattle.as2_http.specs.Notes.{WritesAndNotes, SinkAndJournal, note, refusal_note}
 use Rattle.as2_messages.specs.Parsing.{HasTaken}
 use Rattle.as2_http.specs.Responses.{RespondsTo, Responds, Unsaid}
-use Rattle.as2_http.specs.Streams.{RequestAndResponse, AnswersAll, StayOpen, EndsLast, event_by, stream_events, AnswersPiece, PieceEnds, StreamEnds, CutShort, in_reply, in_refusal, OutOfMemory, for_request, for_reply, for_refusal, notes}
+use Rattle.as2_http.specs.Streams.{RequestAndResponse, AnswersAll, StayOpen, EndsLast, event_by, stream_events, AnswersPiece, StreamEnds, CutShort, in_reply, in_refusal, OutOfMemory, for_request, for_reply, for_refusal, notes}
 use Rattle.as2_messages.specs.declared.request.Request.{Request}
 use Rattle.as2_messages.specs.declared.framing.Method.{Method}
 use Rattle.as2_messages.specs.declared.framing.Method.TheVariants as method
@@ -55,6 +54,7 @@ module _ (A : AgreedValues) (moment : ℕ) where
   event_then s mid t r x method.Head at more p run = subst (λ (x : State). Run A x more t) p.1 run
   event_then s mid t r x method.Other at more p run = subst (λ (x : State). Run A x more t) p.1 run
 
+  -- all that was answered is a run
   answers_run : (s t : State) (text replies rest : List ℕ) (done : List RequestAndResponse) → AnswersAll A moment s text done t replies rest
       → Run A s (stream_events moment done) t
   answers_run s t text replies rest [] a = a.0
@@ -98,7 +98,7 @@ module _ (A : AgreedValues) (moment : ℕ) where
     memory_runs (for_reply r behind x b responds written) = one_runs r x responds
 
   module _ {M : Medium} {s : State} {text left : List ℕ} {p : RequestParser} {c : Standing M} {before after : SinkAndJournal} where
-    -- what a piece took behind the requests that were answered whole
+    -- so is what a piece took behind the requests that were answered whole
     left_runs : (end : Option Served) (a : AnswersPiece A moment s text left p c before after end) → RunsPosts A moment a.mid a.last
     left_runs None a = runs_same a.ends.1
     left_runs (Some served.Closed) a = runs_same a.ends.1
@@ -109,10 +109,11 @@ module _ (A : AgreedValues) (moment : ℕ) where
     left_runs (Some served.ReadFault) a = absurd a.ends
     left_runs (Some served.TooLong) a = absurd a.ends
 
+    -- .. and with them
     piece_runs : {end : Option Served} (a : AnswersPiece A moment s text left p c before after end) → RunsPosts A moment s a.last
     piece_runs {end} a = runs_join (posts_run a.done (answers_run s a.mid text a.replies a.rest a.done a.all)) (left_runs end a)
 
--- so did all that was taken of the stream so far
+-- all that was taken of the stream so far is a run
 abbrev pub TakenSoFar : {M : Medium} → AgreedValues → ℕ → State → Standing M → Type 0
 TakenSoFar A moment s c = (t : State) × c.Rests t × RunsPosts A moment s t
 
@@ -148,7 +149,7 @@ last_on done later go l =
 
 module _ {A : AgreedValues} {moment : ℕ} {s t : State} {input : List ℕ} {unread : Option (List ℕ)} {before after : SinkAndJournal}
     {calls later : ℕ} {end : Served} where
-  -- what of the stream follows from the requests that were answered
+  -- what is told of a stream, from the requests that were answered and how it ended behind them
   serves_behind : (done : List RequestAndResponse) (mid : State) (replies rest : List ℕ) → AnswersAll A moment s input done mid replies rest
       → StreamEnds A moment done mid replies rest unread before after t end → ReadsNeeded (NeedsMore A moment s) input unread calls later
       → Serves A moment s t input unread before after calls later end
@@ -213,7 +214,7 @@ module _ {M : Medium} {A : AgreedValues} {moment : ℕ} {s : State} {input : Lis
       subst (λ (t : List ℕ). AnswersAll A moment s t w.done w.mid w.replies (w.held ++ w.reads.left)) (sym w.reads.whole)
       (answers_append A moment s w.mid w.reads.read w.replies w.held w.reads.left w.done w.all)
 
-  -- ---- a piece more: what is said of it stands behind what was said of the stream so far
+  -- ---- a piece more: what is written and noted of it stands behind what was so far
 
   module _ (later : SinkAndJournal) (more lines own : List ℕ) where
     behind : (part : List ℕ) → WritesAndNotes now later (more ++ part) (lines ++ own)
@@ -247,6 +248,7 @@ module _ {M : Medium} {A : AgreedValues} {moment : ℕ} {s : State} {input : Lis
         for_refusal refused b same (behind_unwritten later more lines (refusal_note moment refused.reason) said)
 
   module _ {after : Option (List ℕ)} {piece : List ℕ} (m : HasArrived w.reads.left piece after) where
+    -- the requests of the stream so far, and those of the piece
     joined : {q : RequestParser} {d : Standing M} {later : SinkAndJournal} {end : Option Served}
         (a : AnswersPiece A moment w.mid (w.held ++ piece ++ m.left) m.left q d now later end)
         → AnswersAll A moment s input (w.done ++ a.done) a.mid (w.replies ++ a.replies) a.rest
@@ -255,6 +257,7 @@ module _ {M : Medium} {A : AgreedValues} {moment : ℕ} {s : State} {input : Lis
         answers_join A moment w.mid a.mid (w.held ++ piece ++ m.left) a.rest a.replies a.done a.all s input w.replies w.done
         (subst (λ (t : List ℕ). AnswersAll A moment s input w.done w.mid w.replies t) same in_input)
 
+    -- how the piece ends is how the stream does
     ends_on : {q : RequestParser} {d : Standing M} {later : SinkAndJournal} (end : Served)
         (a : AnswersPiece A moment w.mid (w.held ++ piece ++ m.left) m.left q d now later (Some end))
         → StreamEnds A moment (w.done ++ a.done) a.mid (w.replies ++ a.replies) a.rest after before later a.last end
@@ -335,6 +338,7 @@ module _ {M : Medium} {A : AgreedValues} {moment : ℕ} {s : State} {input : Lis
   serves_as ends reads = (w.mid, w.rests, serves_behind w.done w.mid w.replies (w.held ++ w.reads.left) in_input ends reads)
 
   module _ {k : ℕ} (after : Option (List ℕ)) (consumed : Consumes unread after []) (done : IsAtEnd after) (is : k ≡ j + 1) where
+    -- nothing is left to be read, so what is held is the rest of the input
     all_held : w.held ≡ w.held ++ w.reads.left
     all_held = sym (append-nil w.held) ∙ ap (λ (t : List ℕ). w.held ++ t) (sym (at_end unread after w.reads.left consumed done w.reads.known))
 
@@ -364,6 +368,7 @@ module _ {M : Medium} {A : AgreedValues} {moment : ℕ} {s : State} {input : Lis
           | inr same ↦ subst so (sym same) (serves_truncated (some same))
         ]
 
+  -- a read failed
   pub serves_fault : {after : Option (List ℕ)} {k : ℕ} → Keeps unread after → k ≡ j + 1
       → LeavesServed A moment s input after c before now i k served.ReadFault
   unfolding nothing_of
@@ -372,6 +377,7 @@ module _ {M : Medium} {A : AgreedValues} {moment : ℕ} {s : State} {input : Lis
       serves_as {end = served.ReadFault} (refl, w.said, w.go_on, (w.held, w.reads.left, refl, holds_open p w.held w.taken, m.kept))
       (next_read m (omega arith) is)
 
+  -- as many reads were made as may be
   pub serves_long : LeavesServed A moment s input unread c before now i j served.TooLong
   serves_long =
       serves_as {end = served.TooLong} (refl, w.said, w.go_on, (w.held, w.reads.left, refl, holds_open p w.held w.taken, w.reads.known)) w.reads

@@ -121,6 +121,7 @@ module _ {M : Medium} {A : AgreedValues} {moment : ℕ} {s : State} {text rest l
     answered_there : ServesRequest A moment w.mid (w.held ++ rest ++ left) (r, a.response) a.next a.text (next ++ left)
     answered_there = record { begins = begins_append (w.held ++ rest) left r next b; responds = a.responds; replies = a.is }
 
+    -- .. behind those that were answered
     with_one : AnswersAll A moment s text (w.done ++ (r, a.response) ∷ []) a.next (w.replies ++ a.text) (next ++ left)
     with_one =
         answers_join A moment w.mid a.next (w.held ++ rest ++ left) (next ++ left) a.text ((r, a.response) ∷ [])
@@ -157,6 +158,17 @@ module _ {M : Medium} {A : AgreedValues} {moment : ℕ} {s : State} {text rest l
 
   -- ---- no request more is
 
+  -- what is written and noted more stands behind what was
+  said_then : (later : SinkAndJournal) (text lines : List ℕ) → WritesAndNotes now later text lines
+      → WritesAndNotes before later (w.replies ++ text) (notes moment w.done ++ lines)
+  said_then later text lines = says_trans before now later w.replies text (notes moment w.done) lines w.said
+
+  -- .. or it is noted alone
+  noted_then : (later : SinkAndJournal) (lines : List ℕ) → WritesAndNotes now later [] lines
+      → WritesAndNotes before later w.replies (notes moment w.done ++ lines)
+  noted_then later lines = says_unwritten before now later w.replies (notes moment w.done) lines w.said
+
+  -- the piece ends so, behind the requests that were answered
   ends_there : {q : RequestParser} {d : Standing M} {later : SinkAndJournal} {end : Option Served} (last : State) → d.Rests last
       → PieceEnds A moment w.done w.mid w.replies (w.held ++ rest ++ left) left q before later last end
       → AnswersPiece A moment s text left q d before later end
@@ -186,52 +198,51 @@ module _ {M : Medium} {A : AgreedValues} {moment : ℕ} {s : State} {text rest l
   -- a reply wasn't written whole
   module _ {U : Type 0} {r : Request} {next : List ℕ} {q : RequestParser} {d : Standing M} {later : SinkAndJournal}
       (b : BeginsRequest (w.held ++ rest) r next) where
+    -- .. but the first bytes of it, or none
     cut_by : (fault : SendFault) → RepliesTo {U = U} A moment w.mid r d now later (Err fault)
         → AnswersPiece A moment s text left q d before later (Some (end_by fault))
     cut_by send_fault.Write x =
         let e = x.sends in
         let there = begins_append (w.held ++ rest) left r next b in
-        let own = note moment r x.response in
-        let said = says_trans before now later w.replies e.2.part (notes moment w.done) own w.said (e.2.appended, x.noted) in
+        let said = said_then later e.2.part (note moment r x.response) (e.2.appended, x.noted) in
         ends_there x.left x.rests (w.go_on, in_reply r (next ++ left) x.response e.0 e.2.part e.2.missing there x.responds e.1 e.2.cut said)
     cut_by send_fault.Memory x =
         let there = begins_append (w.held ++ rest) left r next b in
-        let said = says_unwritten before now later w.replies (notes moment w.done) (note moment r x.response) w.said (x.sends, x.noted) in
+        let said = noted_then later (note moment r x.response) (x.sends, x.noted) in
         ends_there x.left x.rests (w.go_on, for_reply r (next ++ left) x.response there x.responds said)
 
     pub piece_cut : {sent : Result U SendFault} {fault : SendFault} → sent ≡ Err fault → RepliesTo A moment w.mid r d now later sent
         → AnswersPiece A moment s text left q d before later (Some (end_by fault))
     piece_cut {fault} is x = cut_by fault (replied_so is x)
 
-  -- no request begins there: a refusal is noted, and written, whole or in part
+  -- no request begins there, and a refusal is noted
   module _ {refused : Refused} (b : BeginsNoRequest (w.held ++ rest) refused) where
     refuses_there : BeginsNoRequest (w.held ++ rest ++ left) refused
     refuses_there = refuses_append (w.held ++ rest) left refused b
 
+    -- it is written
     pub piece_refused : {U : Type 0} {q : RequestParser} {later : SinkAndJournal} {sent : Result U SendFault} {u : U} → sent ≡ Ok u
         → SendsRefusal moment refused now later sent
         → AnswersPiece A moment s text left q c before later (Some served.BadFraming)
     piece_refused {later} {u} is x =
         let e : SendsRefusal moment refused now later (Ok u) = refused_so is x in
-        let own = refusal_note moment refused.reason in
-        let said = says_trans before now later w.replies e.sends.0 (notes moment w.done) own w.said (e.sends.2, e.noted) in
+        let said = said_then later e.sends.0 (refusal_note moment refused.reason) (e.sends.2, e.noted) in
         ends_there w.mid w.rests (
           w.go_on,
           refl,
           record { refused = refused; refuses = refuses_there; text = e.sends.0; is = e.sends.1; said = said },
         )
 
+    -- .. or the first bytes of it are, or none
     refusal_cut_by : {U : Type 0} {q : RequestParser} {later : SinkAndJournal} (fault : SendFault)
         → SendsRefusal {U = U} moment refused now later (Err fault)
         → AnswersPiece A moment s text left q c before later (Some (end_by fault))
     refusal_cut_by {later} send_fault.Write x =
         let e = x.sends in
-        let own = refusal_note moment refused.reason in
-        let said = says_trans before now later w.replies e.2.part (notes moment w.done) own w.said (e.2.appended, x.noted) in
+        let said = said_then later e.2.part (refusal_note moment refused.reason) (e.2.appended, x.noted) in
         ends_there w.mid w.rests (w.go_on, in_refusal refused e.0 e.2.part e.2.missing refuses_there refl e.1 e.2.cut said)
     refusal_cut_by {later} send_fault.Memory x =
-        let own = refusal_note moment refused.reason in
-        let said = says_unwritten before now later w.replies (notes moment w.done) own w.said (x.sends, x.noted) in
+        let said = noted_then later (refusal_note moment refused.reason) (x.sends, x.noted) in
         ends_there w.mid w.rests (w.go_on, for_refusal refused refuses_there refl said)
 
     pub piece_refusal_cut : {U : Type 0} {q : RequestParser} {later : SinkAndJournal} {sent : Result U SendFault} {fault : SendFault} → sent ≡ Err fault

@@ -25,64 +25,26 @@ use Rattle.as2_json.proofs.Reading.{back}
 word : (w : List ℕ) → are_ascii w ≡ true → IsUtf8 w
 word = IsUtf8-are_ascii
 
+-- a member of an object, whose name is a literal, before the others
+named : {w : List ℕ} {Value Others : Type 0} → are_ascii w ≡ true → Value → Others → IsUtf8 w × (Value × Others)
+named is value others = (word _ is, (value, others))
+
 -- ---- listings
 
 pub out_back : (is_settled : Bool) (r : OutRow) → IsOutRow r → ReadsBack (out_object is_settled r)
 out_back is_settled r h = back _ (record {
   known = rw (number_of-decimal r.number h.number, number_of-decimal r.tries h.tries);
   numerals = (tt, (tt, (tt, (tt, (IsNumber-decimal r.number h.number, (tt, (tt, (tt, (IsNumber-decimal r.tries h.tries, tt)))))))));
-  texts = (
-    word _ refl,
-    (
-      word _ refl,
-      (
-        word _ refl,
-        (
-          detail_utf8 r.detail,
-          (
-            word _ refl,
-            (
-              name_utf8 _ h.organization,
-              (
-                word _ refl,
-                (
-                  id_utf8 _ h.id,
-                  (
-                    word _ refl,
-                    (
-                      IsUtf8-decimal _ h.number,
-                      (
-                        word _ refl,
-                        (
-                          tt,
-                          (
-                            word _ refl,
-                            (
-                              state_utf8 (class_of r.detail),
-                              (
-                                word _ refl,
-                                (
-                                  name_utf8 _ h.partner,
-                                  (
-                                    word _ refl,
-                                    (IsUtf8-decimal _ h.tries, tt),
-                                  ),
-                                ),
-                              ),
-                            ),
-                          ),
-                        ),
-                      ),
-                    ),
-                  ),
-                ),
-              ),
-            ),
-          ),
-        ),
-      ),
-    ),
-  );
+  texts =
+      named refl (word _ refl)
+      (named refl (detail_utf8 r.detail)
+      (named refl (name_utf8 _ h.organization)
+      (named refl (id_utf8 _ h.id)
+      (named refl (IsUtf8-decimal _ h.number)
+      (named refl tt
+      (named refl (state_utf8 (class_of r.detail))
+      (named refl (name_utf8 _ h.partner)
+      (named refl (IsUtf8-decimal _ h.tries) tt))))))));
   shallow = omega arith;
 })
 
@@ -90,46 +52,14 @@ pub in_back : (r : InRow) → IsInRow r → ReadsBack (in_object r)
 in_back r h = back _ (record {
   known = rw (number_of-decimal r.number h.number);
   numerals = (tt, (tt, (tt, (IsNumber-decimal r.number h.number, (tt, (tt, (tt, tt)))))));
-  texts = (
-    word _ refl,
-    (
-      word _ refl,
-      (
-        word _ refl,
-        (
-          name_utf8 _ h.sender,
-          (
-            word _ refl,
-            (
-              id_utf8 _ h.id,
-              (
-                word _ refl,
-                (
-                  IsUtf8-decimal _ h.number,
-                  (
-                    word _ refl,
-                    (
-                      tt,
-                      (
-                        word _ refl,
-                        (
-                          receipt_utf8 r.receipt_stage,
-                          (
-                            word _ refl,
-                            (name_utf8 _ h.receiver, tt),
-                          ),
-                        ),
-                      ),
-                    ),
-                  ),
-                ),
-              ),
-            ),
-          ),
-        ),
-      ),
-    ),
-  );
+  texts =
+      named refl (word _ refl)
+      (named refl (name_utf8 _ h.sender)
+      (named refl (id_utf8 _ h.id)
+      (named refl (IsUtf8-decimal _ h.number)
+      (named refl tt
+      (named refl (receipt_utf8 r.receipt_stage)
+      (named refl (name_utf8 _ h.receiver) tt))))));
   shallow = omega arith;
 })
 
@@ -146,34 +76,12 @@ counts_back c h = back _ (record {
     IsNumber-decimal _ h.in_error,
     (IsNumber-decimal _ h.in_retry, (IsNumber-decimal _ h.not_sent, (IsNumber-decimal _ h.awaited, (IsNumber-decimal _ h.to_send, tt)))),
   );
-  texts = (
-    word _ refl,
-    (
-      IsUtf8-decimal _ h.in_error,
-      (
-        word _ refl,
-        (
-          IsUtf8-decimal _ h.in_retry,
-          (
-            word _ refl,
-            (
-              IsUtf8-decimal _ h.not_sent,
-              (
-                word _ refl,
-                (
-                  IsUtf8-decimal _ h.awaited,
-                  (
-                    word _ refl,
-                    (IsUtf8-decimal _ h.to_send, tt),
-                  ),
-                ),
-              ),
-            ),
-          ),
-        ),
-      ),
-    ),
-  );
+  texts =
+      named refl (IsUtf8-decimal _ h.in_error)
+      (named refl (IsUtf8-decimal _ h.in_retry)
+      (named refl (IsUtf8-decimal _ h.not_sent)
+      (named refl (IsUtf8-decimal _ h.awaited)
+      (named refl (IsUtf8-decimal _ h.to_send) tt))));
   shallow = omega arith;
 })
 
@@ -239,70 +147,18 @@ document_back d h = back _ (record {
       ),
     ),
   );
-  texts = (
-    word _ refl,
-    (
-      word _ refl,
-      (
-        word _ refl,
-        (
-          detail_utf8 d.detail,
-          (
-            word _ refl,
-            (
-              due_texts d.due h.due,
-              (
-                word _ refl,
-                (
-                  name_utf8 _ h.organization,
-                  (
-                    word _ refl,
-                    (
-                      id_utf8 _ h.id,
-                      (
-                        word _ refl,
-                        (
-                          IsUtf8-decimal _ h.bytes,
-                          (
-                            word _ refl,
-                            (
-                              IsUtf8-decimal _ h.number,
-                              (
-                                word _ refl,
-                                (
-                                  receipt_texts d.evidence h.receipt,
-                                  (
-                                    word _ refl,
-                                    (
-                                      state_utf8 (class_of d.detail),
-                                      (
-                                        word _ refl,
-                                        (
-                                          name_utf8 _ h.partner,
-                                          (
-                                            word _ refl,
-                                            (IsUtf8-decimal _ h.tries, tt),
-                                          ),
-                                        ),
-                                      ),
-                                    ),
-                                  ),
-                                ),
-                              ),
-                            ),
-                          ),
-                        ),
-                      ),
-                    ),
-                  ),
-                ),
-              ),
-            ),
-          ),
-        ),
-      ),
-    ),
-  );
+  texts =
+      named refl (word _ refl)
+      (named refl (detail_utf8 d.detail)
+      (named refl (due_texts d.due h.due)
+      (named refl (name_utf8 _ h.organization)
+      (named refl (id_utf8 _ h.id)
+      (named refl (IsUtf8-decimal _ h.bytes)
+      (named refl (IsUtf8-decimal _ h.number)
+      (named refl (receipt_texts d.evidence h.receipt)
+      (named refl (state_utf8 (class_of d.detail))
+      (named refl (name_utf8 _ h.partner)
+      (named refl (IsUtf8-decimal _ h.tries) tt))))))))));
   shallow = omega (arith, due_flat d.due, receipt_shallow d.evidence);
 })
 

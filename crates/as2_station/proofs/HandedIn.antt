@@ -11,8 +11,6 @@ use Rattle.as2_exchange.specs.declared.answer.Answer.TheVariants.{Refused, Submi
 use Rattle.as2_exchange.specs.declared.answer.Refusal.{Refusal}
 use Rattle.as2_exchange.specs.declared.answer.Refusal.TheVariants.{UnknownOrganization, UnknownPartner, TooLarge}
 use Rattle.as2_exchange.specs.declared.fault.StoreFault.{StoreFault}
-use Rattle.as2_exchange.specs.declared.fault.StoreFault.TheVariants.{Memory, Refused as TheRefused}
-use Rattle.as2_records.specs.Standing.{may_come}
 use Rattle.as2_records.specs.Adding.{added_document, with_document}
 use Rattle.as2_station.specs.Heads.{submit_refusal}
 
@@ -40,11 +38,6 @@ pub refuses : (A : Agreements) (s : State) (organization partner content : Text)
 unfolding submit
 refuses A s organization partner content m reason is =
     refused_by (is_organization A organization) (is_some (partner_of A partner)) (nat_lt content_limit (length content)) s _ reason is
-
--- a fault of memory, or of a text that can't be read
-pub may_be : (f : StoreFault) → (f ≡ Memory) ⊎ (f ≡ TheRefused) → may_come f ≡ true
-may_be f (inl is) = ap may_come is
-may_be f (inr is) = ap may_come is
 
 itself : (k : ℕ) → (k == k) ≡ true
 itself k = grind (arith, nat_tests)

@@ -9,7 +9,7 @@ ghost use Rattle.as2_store.specs.Calls.{empty_store};
 ghost use Rattle.as2_store.specs.Stands.{Rests};
 
 use as2_commands::FirstNumber;
-use as2_exchange::StoreFault;
+use as2_exchange::{RowPlace, StoreFault, Table};
 use as2_host::{Migration, OpenFault, OpenStores, PathFault};
 use as2_kept::{Kept, adopt, in_memory};
 use as2_records::Records;
@@ -70,6 +70,13 @@ fn opened_again(mut records: Kept<MemStore>) -> Result<Kept<MemStore>, (Kept<Mem
     }
 }
 
+/// A store of which that row is damaged.
+fn damaged(table: Table, number: u64) -> Result<Kept<MemStore>, OpenFault>
+    ensures { IfOk result (λ records. IsTrue (state over_memory records).is_open) }
+{
+    Err(OpenFault::Store(StoreFault::Damaged(RowPlace { table, number })))
+}
+
 /// What stands there by that word, where no store is kept, or a new store.
 fn found(alloc: Global, word: &str, first: FirstNumber) -> Result<Kept<MemStore>, OpenFault>
     ensures { IfOk result (λ records. IsTrue (state over_memory records).is_open) }
@@ -86,6 +93,8 @@ fn found(alloc: Global, word: &str, first: FirstNumber) -> Result<Kept<MemStore>
         "unopened" => Err(OpenFault::Path(PathFault::Other)),
         "other" => Err(OpenFault::Store(StoreFault::NotAStore)),
         "taken" => Err(OpenFault::Store(StoreFault::Refused)),
+        "damaged" => damaged(Table::Meta, 0),
+        "damaged-entry" => damaged(Table::InboxPiece, 12),
         "bare" => bare(alloc),
         _ => made(alloc, first),
     }

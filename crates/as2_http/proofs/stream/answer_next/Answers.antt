@@ -1,6 +1,5 @@
-use Rattle.std.proofs.Common.{◌≡◌, ◌<◌, ℕ, List, [], ◌++◌, length, take, sym, rules, subst, arith}
+use Rattle.std.proofs.Common.{◌≡◌, ◌<◌, ℕ, List, [], length, take, sym, rules, subst, arith}
 use Rattle.std.specs.Io.KnownBytes.{Consumes}
-use Rattle.as2_http.specs.Notes.{sink_and_journal}
 use Rattle.as2_http.proofs.InputReads.{piece_of}
 use Rattle.as2_http.proofs.Serving.{next_answered, serves_ended, serves_fault, taken_on}
 use Rattle.as2_http.proofs.stream.answer_next.Goals as goal

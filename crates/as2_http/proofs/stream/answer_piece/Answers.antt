@@ -1,14 +1,8 @@
-use Rattle.std.proofs.Common.{◌≡◌, ◌∙◌, true, false, ℕ, List, [], ◌++◌, drop, Some, sym, rules, subst, arith}
+use Rattle.std.proofs.Common.{◌≡◌, ◌∙◌, true, false, [], rules, arith}
 use Rattle.std.proofs.lemmas.List.{nil_from_length}
-use Rattle.as2_http.specs.Notes.{sink_and_journal}
-use Rattle.as2_messages.specs.Parsing.{Parses, EndsRequest}
-use Rattle.as2_messages.specs.Requests.{BeginsNoRequest}
-use Rattle.as2_http.specs.Streams.{AnswersPiece}
-use Rattle.as2_messages.specs.declared.parser.Parsed.{Parsed}
-use Rattle.as2_http.specs.declared.stream.Served.{Served}
 use Rattle.as2_framing.proofs.Feeding.{rest_of}
 use Rattle.as2_http.proofs.Faults.{cut_sound, sent_sound}
-use Rattle.as2_http.proofs.Streaming.{Proceeds, begins_piece, proceeds_on, piece_open, piece_taken, piece_last, piece_cut, piece_refused, piece_refusal_cut, piece_unread, replied_whole}
+use Rattle.as2_http.proofs.Streaming.{begins_piece, proceeds_on, piece_open, piece_taken, piece_last, piece_cut, piece_refused, piece_refusal_cut, piece_unread, replied_whole}
 use Rattle.as2_http.proofs.stream.answer_piece.Goals as goal
 
 pub loop-rest-init : goal.loop-rest-init

@@ -1,7 +1,5 @@
-use Rattle.std.proofs.Common.{◌≡◌, ◌∙◌, [], Option, Some, None, rules, subst, sym, arith}
+use Rattle.std.proofs.Common.{◌≡◌, ◌∙◌, [], Some, None, rules, sym, arith}
 use Rattle.as2_http.specs.Notes.{sink_and_journal}
-use Rattle.as2_http.specs.StreamReads.{AnswersNext}
-use Rattle.as2_http.specs.declared.stream.Served.{Served}
 use Rattle.as2_http.specs.declared.stream.Served.TheVariants.{ReadFault, WriteFault}
 use Rattle.as2_http.proofs.Serving.{between_first, runs_none, serves_long, serves_nothing}
 use Rattle.as2_http.proofs.stream.serve_stream.Goals as goal

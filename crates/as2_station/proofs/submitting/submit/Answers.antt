@@ -3,7 +3,7 @@ use Rattle.as2_exchange.specs.Readings.{out_id}
 use Rattle.as2_exchange.specs.declared.answer.Answer.TheVariants.{Submitted}
 use Rattle.as2_station.specs.Heads.{submit_refusal}
 use Rattle.as2_station.proofs.Doing.{after_read, at_once, failing, passed_on, written, unwritten}
-use Rattle.as2_station.proofs.HandedIn.{may_be, none_left, refuses, submits}
+use Rattle.as2_station.proofs.HandedIn.{none_left, refuses, submits}
 use Rattle.as2_station.proofs.submitting.submit.Goals as goal
 
 pub returns-in-Some-clause-taken : goal.returns-in-Some-clause-taken
@@ -16,7 +16,7 @@ pub returns-in_err-id-clause-taken : goal.returns-in_err-id-clause-taken
 returns-in_err-id-clause-taken g c =
     after_read _ _ _ _ _ _ _ _ _ _ _ (λ s known next. known) c.in_ok-number.ensures.numbers
     (passed_on _ _ _ _ _ _ _ _ c.from_residual-in_err-id.ensures.0 c.from_residual-in_err-id.ensures.1
-    (failing _ _ _ _ _ _ (may_be _ c.in_err-id.ensures.fault)))
+    (failing _ _ _ _ _ _ refl))
 
 pub returns-in_err-add_out-clause-taken : goal.returns-in_err-add_out-clause-taken
 unfolding out_id
