@@ -1,7 +1,8 @@
 -- A whole stream, read by read: the contracts of `answer_next` and `serve_stream`. One piece of it is in Streaming.antt.
--- The plan: what was answered is a run of the machine (`taken_on`). `BetweenReads` holds before the first read (`between_first`) and
--- behind a piece (`between_on`). Each end of the stream gives `Serves`: one in a piece (`ends_on`), and one outside it (`serves_..`).
--- A new end is a case of `left_runs` and `ends_on`, or a `serves_..` more. A new field of `Serves` is made in `serves_behind` alone.
+-- The plan: what was answered is a run of the machine (`answers_run`; for the clause on posts `taken_on`). `BetweenReads` holds before the
+-- first read (`between_first`) and behind a piece (`between_on`). Each end of the stream gives `Serves`: one in a piece by `ends_on` and
+-- `serving_ends`, one outside it by a `serves_..` of its own; both make it by `serves_behind` alone, where a new field of it goes.
+-- A new variant of `Served` is a case of `left_runs` and of `ends_on`, absurd where no piece can end so, and then a `serves_..` too.
 use Rattle.std.proofs.Common.{◌≡◌, ℕ, List, [], ◌∷◌, ◌++◌, ◌⊎◌, ◌+◌, ◌<◌, ◌≤◌, length, Option, Some, None, refl, sym, ap, ◌∙◌, subst, append_assoc, append-nil, inl, inr, arith}
 use Rattle.std.specs.Io.KnownBytes.{Appends, Consumes, IsAtEnd, Keeps}
 use Rattle.as2_records.specs.Standing.{Medium, Standing}
@@ -98,7 +99,7 @@ module _ (A : AgreedValues) (moment : ℕ) where
     memory_runs (for_reply r behind x b responds written) = one_runs r x responds
 
   module _ {M : Medium} {s : State} {text left : List ℕ} {p : RequestParser} {c : Standing M} {before after : SinkAndJournal} where
-    -- so is what a piece took behind the requests that were answered whole
+    -- what a piece took behind the requests that were answered whole is a run
     left_runs : (end : Option Served) (a : AnswersPiece A moment s text left p c before after end) → RunsPosts A moment a.mid a.last
     left_runs None a = runs_same a.ends.1
     left_runs (Some served.Closed) a = runs_same a.ends.1
@@ -292,7 +293,7 @@ module _ {M : Medium} {A : AgreedValues} {moment : ℕ} {s : State} {input : Lis
     ends_on served.TooLong a = absurd a.ends
 
     module _ {k : ℕ} (most : length piece ≤ read_limit) (is : k ≡ j + 1) where
-      -- no bytes behind the piece are looked at
+      -- The stream goes on, so nothing behind the piece is asked about; an end speaks of the whole input (`m.left`, below).
       between_on : {q : RequestParser} {d : Standing M} {later : SinkAndJournal} → 0 < length piece
           → AnswersPiece A moment w.mid (w.held ++ piece ++ []) [] q d now later None → BetweenReads A moment s input q d after before later i k
       unfolding next_read read_on

@@ -1,7 +1,8 @@
 -- One piece of a stream: its requests, one after the other, and how the stream ends with it (`answer_piece`).
 -- The plan: answers and open streams join at the end (`answers_join`, `go_on_join`). `Proceeds` is what the loop keeps: it holds before
--- the first request (`begins_piece`) and behind one more (`proceeds_on`). Then one lemma for each way out of the loop, `piece_..`: all
--- are `ends_there`, with the case of `PieceEnds` that is theirs. A new way out is one more such lemma.
+-- the first request (`begins_piece`) and behind one more (`proceeds_on`). Then one lemma for each way out of the loop, `piece_..`: all but
+-- `piece_last`, whose request is answered whole, are `ends_there`, with the case of `PieceEnds` that is theirs. A new way out is one more
+-- such lemma; a new fault of writing a case of both `.._cut_by`.
 use Rattle.std.proofs.Common.{◌≡◌, ℕ, true, false, List, [], ◌∷◌, ◌++◌, Option, Some, None, Result, Ok, Err, refl, sym, ap, ◌∙◌, subst, append_assoc, append-nil}
 use Rattle.std.specs.Io.KnownBytes.{Appends}
 use Rattle.as2_records.specs.Standing.{Medium, Standing}
@@ -52,7 +53,8 @@ go_on_join (x ∷ done) later a b = (a.0, go_on_join done later a.1 b)
 
 -- ---- what is answered
 
--- the requests of a piece so far were answered, and the rest of the piece is to be taken
+-- The requests of a piece so far were answered, and the rest of the piece is to be taken. `text` is what was held before it, the piece, and
+-- `left`, which stands for any bytes behind it.
 pub record Proceeds {M : Medium} (A : AgreedValues) (moment : ℕ) (s : State) (text rest left : List ℕ) (p : RequestParser) (c : Standing M)
     (before now : SinkAndJournal) : Type 0 where
   pub done : List RequestAndResponse
@@ -65,7 +67,7 @@ pub record Proceeds {M : Medium} (A : AgreedValues) (moment : ℕ) (s : State) (
   pub taken : HasTaken p held
   pub said : WritesAndNotes before now replies (notes moment done)
 
--- what of a reply was written, of a request that is answered in a text
+-- the request was answered in a text: its reply was written whole, and noted
 pub record IsAnswered {M : Medium} (A : AgreedValues) (moment : ℕ) (mid : State) (r : Request) (c : Standing M) (now later : SinkAndJournal) : Type 0 where
   pub response : Response
   pub next : State
@@ -156,7 +158,7 @@ module _ {M : Medium} {A : AgreedValues} {moment : ℕ} {s : State} {text rest l
       ends = ((w.done, (r, a.response), refl, w.go_on, ends), refl, said_of_one);
     }
 
-  -- ---- no request more is
+  -- ---- the piece ends: no further request is answered whole
 
   -- what is written and noted more stands behind what was
   said_then : (later : SinkAndJournal) (text lines : List ℕ) → WritesAndNotes now later text lines

@@ -56,7 +56,7 @@ fn end_by(fault: SendFault) -> Served
     }
 }
 
-/// Writes the reply that says why no request begins there, and notes it.
+/// Notes why no request begins there, and writes the reply that says so.
 fn refuse<W: Sink, J: Journal>(
     alloc: Global,
     moment: Moment,
@@ -75,7 +75,7 @@ fn refuse<W: Sink, J: Journal>(
     send_refusal(alloc, moment, refused, sink)
 }
 
-/// Has the station take a request, writes its reply, and notes it.
+/// Has the station take a request, notes its reply, and writes it.
 fn reply<K: Records, W: Sink, J: Journal>(
     alloc: Global,
     agreements: &Agreements,

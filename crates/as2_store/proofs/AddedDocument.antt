@@ -32,7 +32,7 @@ use Rattle.as2_store.proofs.WaitingRows.{cast_optional}
 use Rattle.as2_store.proofs.WaitingAmong.{put_among}
 use Rattle.as2_store.proofs.AddedTables.{below_all, wrote}
 use Rattle.as2_store.proofs.ResentRows.{resent_more}
-use Rattle.as2_store.proofs.Untouched.{AtMeta, AtInbox, AtInboxPiece, AtOutbox, AtOutboxPiece, AtEvidence, AtWaiting, AtOrigin, AtResent, keeping, still_emptied, still_origin, still_resent}
+use Rattle.as2_store.proofs.Untouched.{AtMeta, AtInbox, AtInboxPiece, AtOutbox, AtOutboxPiece, AtEvidence, AtWaiting, AtOrigin, AtResent, keeping, entries_kept, still_emptied, still_origin, still_resent}
 
 -- ---- the statement
 
@@ -123,14 +123,7 @@ stands_submitted way a d e s x it is small mid four =
       sound = four.sound;
       schema = four.schema_is;
       meta = four.rows_are ∙ ap (λ n. meta_row current_number s.next_in (n + 1) ∷ []) is;
-      entries = record {
-        inbox = k4 AtInbox (λ e. omega arith) ∙ (mid.entries is).inbox;
-        inbox_contents = unchanged (k4 AtInboxPiece (λ e. omega arith)) (mid.entries is).inbox_contents;
-        outbox = k4 AtOutbox (λ e. omega arith) ∙ (mid.entries is).outbox;
-        outbox_contents = unchanged (k4 AtOutboxPiece (λ e. omega arith)) (mid.entries is).outbox_contents;
-        evidence = k4 AtEvidence (λ e. omega arith) ∙ (mid.entries is).evidence;
-        waits = k4 AtWaiting (λ e. omega arith) ∙ (mid.entries is).waits;
-      };
+      entries = entries_kept way AtMeta d.now e.now _ (λ n low high e. omega (arith, low, high, e)) four.others (mid.entries is);
       version = still_origin (k4 AtOrigin (λ e. omega arith)) mid.version;
       begun = still_resent (k4 AtResent (λ e. omega arith)) (mid.begun is);
       left = still_emptied way AtMeta d.now e.now four.others mid.left;

@@ -27,7 +27,7 @@ use Rattle.as2_records.specs.Adding.{with_received, state_with}
 use Rattle.as2_store.proofs.Committing.{FollowsEach}
 use Rattle.as2_store.proofs.NumberedRows.{puts_between}
 use Rattle.as2_store.proofs.WaitingRows.{noted}
-use Rattle.as2_store.proofs.Untouched.{AtMeta, AtInbox, AtInboxPiece, AtOutbox, AtOutboxPiece, AtEvidence, AtWaiting, AtOrigin, AtResent, keeping, still_emptied, still_origin, still_resent}
+use Rattle.as2_store.proofs.Untouched.{AtMeta, AtInbox, AtInboxPiece, AtOutbox, AtOutboxPiece, AtEvidence, AtWaiting, AtOrigin, AtResent, keeping, entries_kept, still_emptied, still_origin, still_resent}
 
 -- what a write of one table, or of none, leaves
 pub record Wrote (way : Way) (old new : Connected) (tree : ℕ) (rows : List Row) : Type 0 where
@@ -111,14 +111,7 @@ stands_received way a d e s x it is small mid four =
       sound = four.sound;
       schema = four.schema_is;
       meta = four.rows_are ∙ ap (λ n. meta_row current_number (n + 1) s.next_out ∷ []) is;
-      entries = record {
-        inbox = k4 AtInbox (λ e. omega arith) ∙ (mid.entries is).inbox;
-        inbox_contents = unchanged (k4 AtInboxPiece (λ e. omega arith)) (mid.entries is).inbox_contents;
-        outbox = k4 AtOutbox (λ e. omega arith) ∙ (mid.entries is).outbox;
-        outbox_contents = unchanged (k4 AtOutboxPiece (λ e. omega arith)) (mid.entries is).outbox_contents;
-        evidence = k4 AtEvidence (λ e. omega arith) ∙ (mid.entries is).evidence;
-        waits = k4 AtWaiting (λ e. omega arith) ∙ (mid.entries is).waits;
-      };
+      entries = entries_kept way AtMeta d.now e.now _ (λ n low high e. omega (arith, low, high, e)) four.others (mid.entries is);
       version = still_origin (k4 AtOrigin (λ e. omega arith)) mid.version;
       begun = still_resent (k4 AtResent (λ e. omega arith)) (mid.begun is);
       left = still_emptied way AtMeta d.now e.now four.others mid.left;

@@ -3,6 +3,7 @@ use Rattle.std.proofs.Common.{◌≡◌, ap, sym, subst, ◌∙◌, arith, Optio
 use Rattle.sqlite.specs.Store.{Ghosts}
 use Rattle.sqlite.specs.Held.{Held, state}
 use Rattle.sqlite.specs.Effect.{Database}
+use Rattle.sqlite.specs.Steps.{FailsToCommit}
 use Rattle.sqlite.specs.Order.{Row}
 use Rattle.sqlite.specs.declared.error.Error.{Error}
 use Rattle.sqlite.specs.State.{State as Connected, HasCleanDisk, Shows, Survives, IsRolledBack, ExecutesInside}
@@ -14,7 +15,7 @@ use Rattle.as2_exchange.specs.State.{State}
 use Rattle.as2_store.specs.Tables.{VersionThree, store_schema}
 use Rattle.as2_store.specs.Stands.{Stands, Holds, Rests}
 use Rattle.as2_store.specs.Calls.{IsInside, Keeps, CommitsTables, WritesTables}
-use Rattle.as2_store.proofs.TransactionEnds.{rests_committed, rests_after, keeps_then}
+use Rattle.as2_store.proofs.TransactionEnds.{rests_committed, rests_after, keeps_then, undone}
 use Rattle.sqlite_schema.specs.declared.schema.Schema.{Schema}
 
 -- ---- statements one after the other
@@ -39,6 +40,15 @@ pub record FollowsEach {S : Type 0} (g : Ghosts S) (old : Held S) (last : Connec
   pub was_open : IsTrue (state g old).is_open
   pub reaches : (s : State) → Rests (state g old) s → (t : State) × (next s ≡ Some t) × Holds last.now t
 
+-- a commit of what was done commits the next state
+pub committed_next : {S : Type 0} (g : Ghosts S) (old : Held S) (last : Connected) (next : State → Option State) → FollowsEach g old last next → (db : Trees)
+    → db ≡ last.now.trees → CommitsTables next (state g old) db
+committed_next g old last next it db is = record {
+  was_open = it.was_open;
+  stands = λ s r. let to =
+      it.reaches s r in record { state = to.0; is = to.1; keeps = subst (λ (t : Trees). Keeps t to.0) (sym is) (keeps_of last.now to.0 to.2) };
+}
+
 -- a statement that ran in it, whether it failed or not
 pub ran_inside : {S : Type 0} (g : Ghosts S) (sql : List ℕ) (params : Row) (old new : Held S) (r : Result ℕ Error) (stop : Error)
     (ended : old.in_transaction ≡ false → (r ≡ Err stop) × (new ≡ old))
@@ -54,51 +64,40 @@ module _ {S : Type 0} (g : Ghosts S) (old : Held S) (last : Connected) (end : He
   abbrev pub at_begin : Connected
   at_begin = state g (record old { in_transaction = true })
 
+  -- a call that failed, once what was done is undone
+  fails : {A E : Type 0} (r : Result A E) → IsErr r → IsInside at_begin last → (HasCleanDisk (state g end) → HasCleanDisk last)
+      → (HasCleanDisk (state g end) → IsRolledBack last (state g end)) → Survives (state g old) (state g end) (CommitsTables next (state g old))
+      → WritesTables {A = A} {E = E} next (state g old) (state g end) r
+  fails (Ok a) err inside was back crash = absurd cc
+  fails (Err e) err inside was back crash = record {
+    clean = λ clean. inside.clean (was clean);
+    was_open = λ clean. tt;
+    is_open = λ clean. tt;
+    done = λ clean. tt;
+    failed = λ clean s r. rests_after (state g old) last (state g end) s r
+        (record { was_open = λ o. (inside.kept (was clean)).was_open o; committed = λ o. (inside.kept (was clean)).committed o }) (back clean);
+    crash = crash;
+  }
+
   pub gives_up : {A E : Type 0} (r : Result A E) → IsErr r → IsInside at_begin last → Survives last (state g end) (λ _. ⊥)
       → (HasCleanDisk (state g end) → IsRolledBack last (state g end)) → WritesTables {A = A} {E = E} next (state g old) (state g end) r
-  gives_up (Ok a) err inside late back = absurd cc
-  gives_up (Err e) err inside late back =
-      let was : HasCleanDisk (state g end) → HasCleanDisk last = λ clean. omega (arith, late.clean, clean) in
-      record {
-        clean = λ clean. inside.clean (was clean);
-        was_open = λ clean. tt;
-        is_open = λ clean. tt;
-        done = λ clean. tt;
-        failed = λ clean s r. rests_after (state g old) last (state g end) s r
-            (record { was_open = λ o. (inside.kept (was clean)).was_open o; committed = λ o. (inside.kept (was clean)).committed o }) (back clean);
-        crash = survives_then (state g old) last (state g end) (λ _. ⊥) (λ _. ⊥) (CommitsTables next (state g old)) (λ _ db none. absurd none)
-            (λ _ db none. absurd none)
-            (survives_begin g old last (λ _. ⊥) inside.survives) late;
-      }
+  gives_up r err inside late back =
+      fails r err inside (λ clean. omega (arith, late.clean, clean)) back
+      (survives_then (state g old) last (state g end) (λ _. ⊥) (λ _. ⊥) (CommitsTables next (state g old)) (λ _ db none. absurd none) (λ _ db none. absurd none)
+      (survives_begin g old last (λ _. ⊥) inside.survives) late)
 
   committed_crash : IsInside at_begin last → Survives last (state g end) (λ db. db ≡ last.now.trees) → (HasCleanDisk last → FollowsEach g old last next)
       → Survives (state g old) (state g end) (CommitsTables next (state g old))
   committed_crash inside late done =
       survives_then (state g old) last (state g end) (λ _. ⊥) (λ db. db ≡ last.now.trees) (CommitsTables next (state g old)) (λ _ db none. absurd none)
-      (λ clean db is.
-      let it = done (omega (arith, late.clean, clean)) in
-      record {
-        was_open = it.was_open;
-        stands = λ s r. let to =
-            it.reaches s r in record { state = to.0; is = to.1; keeps = subst (λ (t : Trees). Keeps t to.0) (sym is) (keeps_of last.now to.0 to.2) };
-      })
+      (λ clean db is. committed_next g old last next (done (omega (arith, late.clean, clean))) db is)
       (survives_begin g old last (λ _. ⊥) inside.survives) late
 
   pub fails_to_commit : {A E : Type 0} (r : Result A E) → IsErr r → IsInside at_begin last → Survives last (state g end) (λ db. db ≡ last.now.trees)
       → (HasCleanDisk last → FollowsEach g old last next) → (HasCleanDisk (state g end) → IsRolledBack last (state g end))
       → WritesTables {A = A} {E = E} next (state g old) (state g end) r
-  fails_to_commit (Ok a) err inside late done back = absurd cc
-  fails_to_commit (Err e) err inside late done back =
-      let was : HasCleanDisk (state g end) → HasCleanDisk last = λ clean. omega (arith, late.clean, clean) in
-      record {
-        clean = λ clean. inside.clean (was clean);
-        was_open = λ clean. tt;
-        is_open = λ clean. tt;
-        done = λ clean. tt;
-        failed = λ clean s r. rests_after (state g old) last (state g end) s r
-            (record { was_open = λ o. (inside.kept (was clean)).was_open o; committed = λ o. (inside.kept (was clean)).committed o }) (back clean);
-        crash = committed_crash inside late done;
-      }
+  fails_to_commit r err inside late done back =
+      fails r err inside (λ clean. omega (arith, late.clean, clean)) back (committed_crash inside late done)
 
   pub commits : {A E : Type 0} (a : A) → IsInside at_begin last → Survives last (state g end) (λ db. db ≡ last.now.trees)
       → (HasCleanDisk last → FollowsEach g old last next)
@@ -127,6 +126,33 @@ module _ {S : Type 0} (g : Ghosts S) (old : Held S) (last : Connected) (end : He
         crash = committed_crash inside late done;
       }
 
+-- ---- the ends of a call, whose connection is given back as `h`
+
+module _ {S : Type 0} (g : Ghosts S) (old : Held S) (last : Connected) (end h : Held S) (same : end ≡ h) (next : State → Option State)
+    (inside : IsInside (state g (record old { in_transaction = true })) last) where
+  -- the transaction is dropped
+  pub dropped : {A E : Type 0} (r : Result A E) → IsErr r → Survives last (state g end) (λ _. ⊥)
+      → (HasCleanDisk (state g end) → IsRolledBack last (state g end)) → WritesTables {A = A} {E = E} next (state g old) (state g h) r
+  dropped r err late back = subst (λ (h : Held S). WritesTables next (state g old) (state g h) r) same (gives_up g old last end next r err inside late back)
+
+  -- its commit fails
+  pub uncommitted : {A E : Type 0} (r : Result A E) (e : Error) → IsErr r → Survives last (state g end) (λ db. db ≡ last.now.trees)
+      → (HasCleanDisk last → FollowsEach g old last next) → (HasCleanDisk last → IsTrue last.in_transaction)
+      → (HasCleanDisk (state g end) → FailsToCommit last (state g end) e) → WritesTables {A = A} {E = E} next (state g old) (state g h) r
+  uncommitted r e err late done within failed =
+      subst (λ (h : Held S). WritesTables next (state g old) (state g h) r) same
+      (fails_to_commit g old last end next r err inside late done
+      (λ clean. undone last (state g end) e (within (omega (arith, late.clean, clean))) (failed clean)))
+
+  -- it is committed
+  pub committed : {A E : Type 0} (a : A) → Survives last (state g end) (λ db. db ≡ last.now.trees) → (HasCleanDisk last → FollowsEach g old last next)
+      → (HasCleanDisk (state g end) → Shows last (state g end) last.now last.now false)
+      → ((db : Trees) → IsTrue (state g end).is_open → (state g end).may_leave db → db ≡ (state g end).committed.trees)
+      → WritesTables {A = A} {E = E} next (state g old) (state g h) (Ok a)
+  committed {A} {E} a late done shows settled =
+      subst (λ (h : Held S). WritesTables {A = A} {E = E} next (state g old) (state g h) (Ok a)) same
+      (commits g old last end next a inside late done shows settled)
+
 -- ---- the same write, by other names
 
 -- its failure is told otherwise
@@ -145,12 +171,3 @@ pub write_of : {A E : Type 0} (next : State → Option State) (inside outside ne
     → WritesTables next inside new r
     → WritesTables next outside new r
 write_of next inside outside new r same it = subst (λ c. WritesTables next c new r) same it
-
--- a commit of what was done commits the next state
-pub committed_next : {S : Type 0} (g : Ghosts S) (old : Held S) (last : Connected) (next : State → Option State) → FollowsEach g old last next → (db : Trees)
-    → db ≡ last.now.trees → CommitsTables next (state g old) db
-committed_next g old last next it db is = record {
-  was_open = it.was_open;
-  stands = λ s r. let to =
-      it.reaches s r in record { state = to.0; is = to.1; keeps = subst (λ (t : Trees). Keeps t to.0) (sym is) (keeps_of last.now to.0 to.2) };
-}

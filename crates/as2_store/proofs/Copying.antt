@@ -1,11 +1,10 @@
 -- INSERT of what a query over another table shows.
-use Rattle.std.proofs.Common.{◌≡◌, ◌≢◌, ◌∙◌, ℕ, ℤ, pos, ◌<◌, List, [], ◌∷◌, ◌++◌, map, drop, slice_get, Bool, false, cond, Some, Ok, refl, sym, ap, subst, IsPermutation, negsuc, append_assoc, append-nil}
+use Rattle.std.proofs.Common.{◌≡◌, ◌≢◌, ◌∙◌, ℕ, ℤ, pos, ◌<◌, List, [], ◌∷◌, ◌++◌, map, drop, slice_get, Bool, false, cond, Some, Ok, refl, sym, ap, subst, negsuc, append_assoc, append-nil}
 use Rattle.std.specs.List.{AllByRecursion}
-use Rattle.std.proofs.lemmas.List.Sorted.{IsPermutation-sym, IsPermutation-trans, IsPermutation-map}
-use Rattle.sqlite.specs.declared.types.Value.TheVariants.{Null, Int}
+use Rattle.sqlite.specs.declared.types.Value.TheVariants.{Int}
 use Rattle.sqlite.specs.Cast.{cast_row}
 use Rattle.sqlite.specs.Command.TheVariants.{Insert}
-use Rattle.sqlite.specs.Edit.{edit_of, next_rowid, numbered, put_all, with_rowid, Applies}
+use Rattle.sqlite.specs.Edit.{edit_of, numbered, put_all, with_rowid, Applies}
 use Rattle.sqlite.specs.Effect.{Answers, Database}
 use Rattle.sqlite.specs.Listing.{understood}
 use Rattle.sqlite.specs.Collation.{Collation}
@@ -26,10 +25,8 @@ use Rattle.sqlite_schema.specs.declared.schema.Keys.TheVariants.{Enforced}
 use Rattle.sqlite_schema.specs.Rules.{Fits}
 use Rattle.sqlite_sql.specs.Ops.{is_null}
 use Rattle.sqlite_value.specs.declared.keys.Key.{Key}
-use Rattle.sqlite_trees.proofs.ListLemmas.{all-append, map-map, pull_back}
-use Rattle.sql_tables.specs.Changes.{ChangesTable, HasRows, chosen_rows, numbered_row, over_table, shown_of}
-use Rattle.sql_tables.proofs.Queries.{map_same}
-use Rattle.sql_tables.proofs.Sorting.{no_rows, one_more_row}
+use Rattle.sqlite_trees.proofs.ListLemmas.{all-append}
+use Rattle.sql_tables.specs.Changes.{ChangesTable, over_table}
 use Rattle.sql_tables.proofs.Writes.{no_works, ran_insert, same_value, unless, went}
 use Rattle.as2_store.proofs.NumberedRows.{puts_between}
 

@@ -54,7 +54,8 @@ makes_inbox a b c d i j k one two three bare =
     let second = one_more b c with_meta inbox2_made first
     (makes_table inbox2_text b c with_meta first.schema_is inbox2_made inbox_is inbox_plain refl inbox_create.0 inbox_create.1 j two) in
     one_more c d with_inbox inbox2_piece_made second
-    (makes_table inbox2_piece_text c d with_inbox second.schema_is inbox2_piece_made inbox_piece_is inbox_piece_plain refl inbox_piece_create.0 inbox_piece_create.1 k three)
+    (makes_table inbox2_piece_text c d with_inbox second.schema_is inbox2_piece_made inbox_piece_is inbox_piece_plain refl inbox_piece_create.0
+    inbox_piece_create.1 k three)
 
 pub makes_outbox : (a b c d : Connected) (i j k : ℕ) → Executes outbox_text [] a b (Ok i) → Executes outbox_piece_text [] b c (Ok j)
     → Executes evidence_statement [] c d (Ok k)
@@ -63,9 +64,11 @@ makes_outbox a b c d i j k one two three bare =
     let first = one_more a b inbox_schema outbox_made bare
     (makes_table outbox_text a b inbox_schema bare.schema_is outbox_made outbox_is outbox_plain refl outbox_create.0 outbox_create.1 i one) in
     let second = one_more b c with_outbox outbox_piece_made first
-    (makes_table outbox_piece_text b c with_outbox first.schema_is outbox_piece_made outbox_piece_is outbox_piece_plain refl outbox_piece_create.0 outbox_piece_create.1 j two) in
+    (makes_table outbox_piece_text b c with_outbox first.schema_is outbox_piece_made outbox_piece_is outbox_piece_plain refl outbox_piece_create.0
+    outbox_piece_create.1 j two) in
     one_more c d with_outbox_piece evidence_made second
-    (makes_table evidence_statement c d with_outbox_piece second.schema_is evidence_made evidence_is evidence_plain refl evidence_create.0 evidence_create.1 k three)
+    (makes_table evidence_statement c d with_outbox_piece second.schema_is evidence_made evidence_is evidence_plain refl evidence_create.0
+    evidence_create.1 k three)
 
 pub makes_waiting : (a b c : Connected) (i j : ℕ) → Executes waiting_text [] a b (Ok i) → Executes waiting_due_text [] b c (Ok j)
     → HasNoRow a.now outbox_schema → HasNoRow c.now waiting_schema
@@ -73,7 +76,8 @@ makes_waiting a b c i j one two bare =
     let first = one_more a b outbox_schema waiting_made bare
     (makes_table waiting_text a b outbox_schema bare.schema_is waiting_made waiting_is waiting_plain refl waiting_create.0 waiting_create.1 i one) in
     let second : AddsIndex b c with_waiting waiting_schema =
-    makes_index waiting_due_text b c with_waiting first.schema_is 6 waiting_table refl waiting_due_made waiting_due_is waiting_due_plain waiting_due_create.0 waiting_due_create.1 j two in
+    makes_index waiting_due_text b c with_waiting first.schema_is 6 waiting_table refl waiting_due_made waiting_due_is waiting_due_plain
+    waiting_due_create.0 waiting_due_create.1 j two in
     record { schema_is = second.schema_is; empty = still_empty b.now.trees c.now.trees with_waiting.tables first.empty second.others }
 
 pub makes_later : (a b c : Connected) (i j : ℕ) → Executes origin_text [] a b (Ok i) → Executes resent_text [] b c (Ok j) → HasNoRow a.now waiting_schema

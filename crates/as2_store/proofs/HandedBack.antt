@@ -1,9 +1,10 @@
 -- What is handed back, where a connection is refused; and what is adopted.
-use Rattle.std.proofs.Common.{◌≡◌, ◌⊎◌, inl, inr, ℕ, List, [], ◌∷◌, codes, Some, None, Ok, IsTrue, true, false, refl, sym, ap, ◌∙◌, arith}
+use Rattle.std.proofs.Common.{◌≡◌, ◌⊎◌, inl, inr, ℕ, List, [], ◌∷◌, codes, Some, None, Ok, IsTrue, true, false, refl, sym, ap, subst, ◌∙◌, arith}
 use Rattle.sqlite_trees.specs.Tree.{Trees}
 use Rattle.sqlite.specs.Store.{Ghosts}
 use Rattle.sqlite.specs.Held.{Held, state}
 use Rattle.sqlite.specs.Order.{Row}
+use Rattle.sqlite.specs.Steps.{FailsToCommit}
 use Rattle.sqlite.specs.declared.error.Error.{Error}
 use Rattle.sqlite.specs.State.{State as Connected, HasCleanDisk, Survives, IsRolledBack, Shown, FailsToQuery, IsTooLate}
 use Rattle.sqlite.proofs.StateLemmas.{survives_then}
@@ -19,6 +20,7 @@ use Rattle.as2_store.specs.Tables.{current_number}
 use Rattle.as2_store.specs.Stands.{Holds, MetaSays, adoption_fault}
 use Rattle.as2_records.specs.Standing.{may_come}
 use Rattle.as2_store.specs.Calls.{IsInside, IsGivenBack, IsReason, WritesTables, Adopts}
+use Rattle.as2_store.proofs.TransactionEnds.{undone}
 use Rattle.as2_store.proofs.MetaRow.{said_fails, reads_said, says_held, meta_cells}
 
 -- ---- a transaction that is given up
@@ -42,6 +44,26 @@ gives_back g old last end late commits inside survives leads autocommit back =
           (λ clean db is. leads (omega (arith, survives.clean, clean)) db is)
           (survives_begin g old last (λ _. ⊥) inside.survives) survives;
     }
+
+-- the ends of a call, whose connection is given back as `h`
+module _ {S : Type 0} (g : Ghosts S) (old : Held S) (last : Connected) (end h : Held S) (same : end ≡ h) (commits : Trees → Type 0)
+    (inside : IsInside (state g (record old { in_transaction = true })) last) where
+  -- the transaction is dropped
+  pub hands_back : Survives last (state g end) (λ _. ⊥) → (state g end).in_transaction ≡ false
+      → (HasCleanDisk (state g end) → IsRolledBack last (state g end)) → IsGivenBack commits (state g old) (state g h)
+  hands_back late ended back =
+      subst (λ (h : Held S). IsGivenBack commits (state g old) (state g h)) same
+      (gives_back g old last end (λ _. ⊥) commits inside late (λ clean db none. absurd none) ended back)
+
+  -- its commit fails
+  pub hands_back_uncommitted : (e : Error) → Survives last (state g end) (λ db. db ≡ last.now.trees)
+      → (HasCleanDisk last → (db : Trees) → db ≡ last.now.trees → commits db) → (state g end).in_transaction ≡ false
+      → (HasCleanDisk last → IsTrue last.in_transaction) → (HasCleanDisk (state g end) → FailsToCommit last (state g end) e)
+      → IsGivenBack commits (state g old) (state g h)
+  hands_back_uncommitted e late leads ended within failed =
+      subst (λ (h : Held S). IsGivenBack commits (state g old) (state g h)) same
+      (gives_back g old last end (λ db. db ≡ last.now.trees) commits inside late leads ended
+      (λ clean. undone last (state g end) e (within (omega (arith, late.clean, clean))) (failed clean)))
 
 -- ---- why the row of `meta` can't be read
 

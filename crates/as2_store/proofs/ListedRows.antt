@@ -1,7 +1,7 @@
 -- Rows that are read one at a time, and what is listed of them.
-use Rattle.std.proofs.Common.{◌≡◌, ◌⊎◌, ◌∙◌, ℕ, inl, inr, List, [], ◌∷◌, ◌++◌, map, None, Some, Ok, Err, IsTrue, refl, sym, ap, ap₂, subst, arith}
+use Rattle.std.proofs.Common.{◌≡◌, ◌⊎◌, ◌∙◌, ℕ, inl, inr, List, [], ◌∷◌, ◌++◌, map, None, Some, Result, Ok, Err, IsErr, IsTrue, refl, sym, ap, ap₂, subst, arith}
 use Rattle.sqlite.specs.Effect.{Database}
-use Rattle.sqlite.specs.Given.{Advances, HasBegun, HasGiven}
+use Rattle.sqlite.specs.Given.{Advances, FailsToAdvance, HasBegun, HasGiven}
 use Rattle.sqlite.specs.Held.{Held, state}
 use Rattle.sqlite.specs.Listing.{understood}
 use Rattle.sqlite.specs.Order.{Row}
@@ -9,6 +9,8 @@ use Rattle.sqlite.specs.State.{State as Connected, HasCleanDisk, Survives, Shown
 use Rattle.sqlite.specs.Store.{Ghosts}
 use Rattle.sqlite.proofs.Callers.{IsPlain, begun_plain, never_commits, unchanged_then}
 use Rattle.sqlite.proofs.StateLemmas.{survives_then, survives_weaker}
+use Rattle.sqlite.specs.declared.error.Error.{Error}
+use Rattle.sql_tables.proofs.Inside.{fails_to_query}
 use Rattle.as2_exchange.specs.State.{State}
 use Rattle.as2_exchange.specs.declared.fault.StoreFault.{StoreFault}
 use Rattle.as2_store.specs.Calls.{CommitsTables, ReadsTables}
@@ -121,3 +123,46 @@ pub still_nothing : (old mid new : Connected) → Survives old mid (CommitsTable
     → Survives old new (CommitsTables Some old)
 still_nothing old mid new one two =
     survives_then old mid new (CommitsTables Some old) (λ _. ⊥) (CommitsTables Some old) (λ _ db is. is) (λ _ db none. absurd none) one two
+
+-- ---- the ends of a turn of the listing
+
+-- It began at `mid`, with these listed; `now` is behind its row, and the connection is given back as `h`.
+module _ {S X Y A : Type 0} (g : Ghosts S) (sql : List ℕ) (params : Row) (shown : X → Row) (listed : List X → List Y) (fits : State → A → Type 0)
+    (old mid now h : Held S) (ys : List Y) (same : now ≡ h) (before : Survives (state g old) (state g mid) (CommitsTables Some (state g old)))
+    (so_far : HasCleanDisk (state g mid) → (s : State) → Rests (state g old) s → HasListed g sql params shown listed old mid ys)
+    (late : Survives (state g mid) (state g now) (λ _. ⊥)) where
+  -- the next row can't be given
+  pub stops : (f : StoreFault) (e : Error) → (HasCleanDisk (state g now) → FailsToAdvance g mid now e)
+      → ReadsTables {A = A} {E = StoreFault} fits (state g old) (state g h) (Err f)
+  stops f e failed =
+      subst (λ (h : Held S). ReadsTables {A = A} {E = StoreFault} fits (state g old) (state g h) (Err f)) same
+      (lists_none fits (state g old) (state g now) f (still_nothing (state g old) (state g mid) (state g now) before late) (λ clean s r.
+      let it = so_far (omega (arith, late.clean, clean)) s r in
+      rests_still (state g mid) (state g now) s (rests_still (state g old) (state g mid) s r (inl it.same))
+      (fails_to_query sql params (state g mid) (state g now) e (failed clean sql params it.given it.has))))
+
+  -- what the row shows can't be listed
+  pub breaks_off : (r : Result A StoreFault) → IsErr r → (HasCleanDisk (state g now) → IsUnchanged (state g mid) (state g now))
+      → ReadsTables {A = A} {E = StoreFault} fits (state g old) (state g h) r
+  breaks_off (Ok a) err stays = absurd cc
+  breaks_off (Err f) err stays =
+      subst (λ (h : Held S). ReadsTables {A = A} {E = StoreFault} fits (state g old) (state g h) (Err f)) same
+      (lists_none fits (state g old) (state g now) f (still_nothing (state g old) (state g mid) (state g now) before late) (λ clean s r.
+      let it = so_far (omega (arith, late.clean, clean)) s r in
+      rests_still (state g mid) (state g now) s (rests_still (state g old) (state g mid) s r (inl it.same)) (inl (stays clean))))
+
+  -- there is no row more
+  pub gives_all : (a : A) → (HasCleanDisk (state g old) → IsTrue (state g old).is_open)
+      → (HasCleanDisk (state g now) → IsUnchanged (state g mid) (state g now)) → (HasCleanDisk (state g now) → Advances g mid now None)
+      → ((given : List Row) (s : State) → Rests (state g mid) s → Shown sql params (state g mid) (state g now) given
+      → ((xs : List X) → given ≡ map shown xs → ys ≡ listed xs) → fits s a)
+      → ReadsTables {A = A} {E = StoreFault} fits (state g old) (state g h) (Ok a)
+  gives_all a opened stays ended fit =
+      subst (λ (h : Held S). ReadsTables {A = A} {E = StoreFault} fits (state g old) (state g h) (Ok a)) same
+      (lists fits (state g old) (state g now) a opened (λ clean. (stays clean).0.is_open)
+      (still_nothing (state g old) (state g mid) (state g now) before late) (λ clean s r.
+      let it = so_far (omega (arith, late.clean, clean)) s r in
+      let stood = rests_still (state g old) (state g mid) s r (inl it.same) in (
+        rests_still (state g mid) (state g now) s stood (inl (stays clean)),
+        fit it.given s stood (all_given g sql params shown listed old mid now ys it (ended clean)) it.read,
+      )))

@@ -1,8 +1,8 @@
 -- What the statements of a migration leave, and what the tables stand for then.
-use Rattle.std.proofs.Common.{◌≡◌, ◌∙◌, ℕ, ◌||◌, nat_le, List, [], ◌∷◌, map, filter, Ok, Bool, true, false, pos, negsuc, refl, sym, ap, ap₂, subst, arith, ℤ}
+use Rattle.std.proofs.Common.{◌≡◌, ◌∙◌, ℕ, ◌||◌, nat_le, List, [], ◌∷◌, map, filter, Ok, Bool, true, false, pos, negsuc, refl, sym, ap, ap₂, subst, arith}
 use Rattle.std.specs.List.{AllByRecursion}
 use Rattle.std.proofs.lemmas.List.Sorted.{IsPermutation-refl}
-use Rattle.sqlite.specs.declared.types.Value.TheVariants.{Null, Int}
+use Rattle.sqlite.specs.declared.types.Value.TheVariants.{Int}
 use Rattle.sqlite.specs.Cast.{cast_row}
 use Rattle.sqlite.specs.Edit.{numbered, put_all}
 use Rattle.sqlite.specs.Program.{overlay}
@@ -33,7 +33,7 @@ use Rattle.as2_store.proofs.Making.{inbox_is, inbox_piece_is, origin_is, resent_
 use Rattle.as2_store.proofs.MigrationTexts.{first_schema, beside_inbox, beside_origin, inbox_create, inbox_plain, piece_create, piece_plain, origin_create, origin_plain, resent_create, resent_plain, second_create, second_plain, copy_inbox_terms, copy_inbox_is, copy_inbox_plain, clear_inbox_is, clear_inbox_plain, version_project, version_is, version_plain}
 use Rattle.as2_store.proofs.NumberedRows.{entries_rise, numbers_rise}
 use Rattle.as2_store.proofs.Statements.{inbox2_text, inbox2_piece_text, origin_text, resent_text, copy_inbox_text, clear_inbox_text, version_text}
-use Rattle.as2_store.proofs.Untouched.{AtMeta, AtInbox, AtInboxPiece, AtOutbox, AtOutboxPiece, AtEvidence, AtWaiting, AtOrigin, AtResent, keeping, still_emptied, still_origin, still_resent}
+use Rattle.as2_store.proofs.Untouched.{AtMeta, AtInboxPiece, AtOutbox, AtOutboxPiece, AtEvidence, AtWaiting, AtInbox, AtOrigin, AtResent, keeping, entries_kept, still_emptied, still_entries, still_origin, still_resent}
 use Rattle.as2_store.proofs.WaitingRows.{cast_optional}
 
 -- ---- tables beside those of the first version
@@ -41,22 +41,16 @@ use Rattle.as2_store.proofs.WaitingRows.{cast_optional}
 pub makes_inbox_beside : (a b c : Connected) (i j : ℕ) → Executes inbox2_text [] a b (Ok i) → Executes inbox2_piece_text [] b c (Ok j) → (s : State)
     → Stands VersionOne a.now s → IsInboxBeside c.now s
 makes_inbox_beside a b c i j one two s it =
-    let has = it.entries in
     let m1 = makes_table inbox2_text a b first_schema it.schema inbox2_made inbox_is inbox_plain refl inbox_create.0 inbox_create.1 i one in
-    let m2 = makes_table inbox2_piece_text b c beside_inbox m1.schema_is inbox2_piece_made inbox_piece_is piece_plain refl piece_create.0 piece_create.1 j two in
+    let m2 = makes_table inbox2_piece_text b c beside_inbox m1.schema_is inbox2_piece_made inbox_piece_is piece_plain refl piece_create.0
+    piece_create.1 j two in
     let o1 = m1.others in
     let o2 = m2.others in
     record {
       schema = m2.schema_is;
       meta = o2.0 ∙ o1.0 ∙ it.meta;
-      entries = record {
-        inbox = o2.1.0 ∙ o1.1.0 ∙ has.inbox;
-        inbox_contents = unchanged (o2.1.1.0 ∙ o1.1.1.0) has.inbox_contents;
-        outbox = o2.1.1.1.0 ∙ o1.1.1.1.0 ∙ has.outbox;
-        outbox_contents = unchanged (o2.1.1.1.1.0 ∙ o1.1.1.1.1.0) has.outbox_contents;
-        evidence = o2.1.1.1.1.1.0 ∙ o1.1.1.1.1.1.0 ∙ has.evidence;
-        waits = o2.1.1.1.1.1.1.0 ∙ o1.1.1.1.1.1.1.0 ∙ has.waits;
-      };
+      entries = still_entries VersionOne VersionOne b.now c.now s o2.1.0 o2.1.1.0 o2.1.1.1.0 o2.1.1.1.1.0 o2.1.1.1.1.1.0 o2.1.1.1.1.1.1.0
+          (still_entries VersionOne VersionOne a.now b.now s o1.1.0 o1.1.1.0 o1.1.1.1.0 o1.1.1.1.1.0 o1.1.1.1.1.1.0 o1.1.1.1.1.1.1.0 it.entries);
       no_inbox = o2.1.1.1.1.1.1.1.0 ∙ m1.empty;
       no_piece = m2.empty;
     }
@@ -64,7 +58,6 @@ makes_inbox_beside a b c i j one two s it =
 pub makes_beside : (a b c : Connected) (i j : ℕ) → Executes origin_text [] a b (Ok i) → Executes resent_text [] b c (Ok j) → (s : State)
     → IsInboxBeside a.now s → IsBeside c.now s
 makes_beside a b c i j one two s it =
-    let has = it.entries in
     let m1 = makes_table origin_text a b beside_schema it.schema origin_made origin_is origin_plain refl origin_create.0 origin_create.1 i one in
     let m2 = makes_table resent_text b c beside_origin m1.schema_is resent_made resent_is resent_plain refl resent_create.0 resent_create.1 j two in
     let o1 = m1.others in
@@ -72,14 +65,8 @@ makes_beside a b c i j one two s it =
     record {
       schema = m2.schema_is;
       meta = o2.0 ∙ o1.0 ∙ it.meta;
-      entries = record {
-        inbox = o2.1.0 ∙ o1.1.0 ∙ has.inbox;
-        inbox_contents = unchanged (o2.1.1.0 ∙ o1.1.1.0) has.inbox_contents;
-        outbox = o2.1.1.1.0 ∙ o1.1.1.1.0 ∙ has.outbox;
-        outbox_contents = unchanged (o2.1.1.1.1.0 ∙ o1.1.1.1.1.0) has.outbox_contents;
-        evidence = o2.1.1.1.1.1.0 ∙ o1.1.1.1.1.1.0 ∙ has.evidence;
-        waits = o2.1.1.1.1.1.1.0 ∙ o1.1.1.1.1.1.1.0 ∙ has.waits;
-      };
+      entries = still_entries VersionOne VersionOne b.now c.now s o2.1.0 o2.1.1.0 o2.1.1.1.0 o2.1.1.1.1.0 o2.1.1.1.1.1.0 o2.1.1.1.1.1.1.0
+          (still_entries VersionOne VersionOne a.now b.now s o1.1.0 o1.1.1.0 o1.1.1.1.0 o1.1.1.1.1.0 o1.1.1.1.1.1.0 o1.1.1.1.1.1.1.0 it.entries);
       no_inbox = o2.1.1.1.1.1.1.1.0 ∙ o1.1.1.1.1.1.1.1.0 ∙ it.no_inbox;
       no_piece = o2.1.1.1.1.1.1.1.1.0 ∙ o1.1.1.1.1.1.1.1.1.0 ∙ it.no_piece;
       no_origin = o2.1.1.1.1.1.1.1.1.1.0 ∙ m1.empty;
@@ -167,20 +154,14 @@ module _ (s : State) (from : IsCounted s) where
 
   pub emptied_first : (a b : Connected) (i : ℕ) → Executes clear_inbox_text [] a b (Ok i) → IsCopied a.now s → IsMoved b.now s
   emptied_first a b i one it =
-      let has = it.entries in
       let done = clears_inbox a b i it.schema it.first_inbox one in
       let o = done.others in
       record {
         schema = done.schema_is;
         meta = o.0 (λ e. omega arith) ∙ it.meta;
-        entries = record {
-          inbox = o.1.1.1.1.1.1.1.0 (λ e. omega arith) ∙ has.inbox;
-          inbox_contents = unchanged (o.1.1.1.1.1.1.1.1.0 (λ e. omega arith)) has.inbox_contents;
-          outbox = o.1.1.1.0 (λ e. omega arith) ∙ has.outbox;
-          outbox_contents = unchanged (o.1.1.1.1.0 (λ e. omega arith)) has.outbox_contents;
-          evidence = o.1.1.1.1.1.0 (λ e. omega arith) ∙ has.evidence;
-          waits = o.1.1.1.1.1.1.0 (λ e. omega arith) ∙ has.waits;
-        };
+        entries = still_entries (VersionThree Migrated) (VersionThree Migrated) a.now b.now s (o.1.1.1.1.1.1.1.0 (λ e. omega arith))
+            (o.1.1.1.1.1.1.1.1.0 (λ e. omega arith)) (o.1.1.1.0 (λ e. omega arith)) (o.1.1.1.1.0 (λ e. omega arith))
+            (o.1.1.1.1.1.0 (λ e. omega arith)) (o.1.1.1.1.1.1.0 (λ e. omega arith)) it.entries;
         left = (done.rows_are, (o.1.1.0 (λ e. omega arith) ∙ it.no_content, tt));
         no_origin = o.1.1.1.1.1.1.1.1.1.0 (λ e. omega arith) ∙ it.no_origin;
         no_resent = o.1.1.1.1.1.1.1.1.1.1.0 (λ e. omega arith) ∙ it.no_resent;
@@ -190,18 +171,18 @@ module _ (s : State) (from : IsCounted s) where
 pub originated : (a b c : Connected) (s : State) (next : ℕ) → Stands VersionOne a.now s → next ≡ s.next_in → IsMoved b.now s
     → ChangesTable b c (store_schema Migrated) (origin_tree Migrated) (origin_row next ∷ []) → StandsBut 1 Migrated c.now (migrated_state s)
 originated a b c s next from is it one =
-    let has = it.entries in
     let k1 = keeping Migrated AtOrigin b.now.trees c.now.trees one.others in
+    let has = entries_kept Migrated AtOrigin b.now c.now s (λ n low high e. omega (arith, low, high, e)) one.others it.entries in
     record {
       schema = one.schema_is;
       meta = k1 AtMeta (λ e. omega arith) ∙ it.meta;
       entries = record {
-        inbox = k1 AtInbox (λ e. omega arith) ∙ has.inbox;
-        inbox_contents = unchanged (k1 AtInboxPiece (λ e. omega arith)) has.inbox_contents;
-        outbox = k1 AtOutbox (λ e. omega arith) ∙ has.outbox;
-        outbox_contents = unchanged (k1 AtOutboxPiece (λ e. omega arith)) has.outbox_contents;
-        evidence = k1 AtEvidence (λ e. omega arith) ∙ has.evidence;
-        waits = k1 AtWaiting (λ e. omega arith) ∙ has.waits;
+        inbox = has.inbox;
+        inbox_contents = has.inbox_contents;
+        outbox = has.outbox;
+        outbox_contents = has.outbox_contents;
+        evidence = has.evidence;
+        waits = has.waits;
       };
       version = record { number = next; rows_are = one.rows_are; version_is = ap LaterVersion (sym is) };
       begun = none_resent s.outbox (k1 AtResent (λ e. omega arith) ∙ it.no_resent) from.begun;
@@ -215,21 +196,14 @@ originated a b c s next from is it one =
 pub makes_third : (way : Way) (a b : Connected) (count : ℕ) (s : State) → Stands (VersionTwo way) a.now s → Executes resent_text [] a b (Ok count)
     → StandsBut 2 way b.now s
 makes_third Fresh a b count s it h =
-    let has = it.entries in
     let m = makes_table resent_text a b (schema_of (VersionTwo Fresh)) it.schema resent_made resent_is (second_plain Fresh) refl
     (second_create Fresh).0 (second_create Fresh).1 count h in
     let o = m.others in
     record {
       schema = m.schema_is;
       meta = o.0 ∙ it.meta;
-      entries = record {
-        inbox = o.1.0 ∙ has.inbox;
-        inbox_contents = unchanged o.1.1.0 has.inbox_contents;
-        outbox = o.1.1.1.0 ∙ has.outbox;
-        outbox_contents = unchanged o.1.1.1.1.0 has.outbox_contents;
-        evidence = o.1.1.1.1.1.0 ∙ has.evidence;
-        waits = o.1.1.1.1.1.1.0 ∙ has.waits;
-      };
+      entries = still_entries (VersionTwo Fresh) (VersionThree Fresh) a.now b.now s o.1.0 o.1.1.0 o.1.1.1.0 o.1.1.1.1.0 o.1.1.1.1.1.0 o.1.1.1.1.1.1.0
+          it.entries;
       version = still_origin o.1.1.1.1.1.1.1.0 it.version;
       begun = none_resent s.outbox m.empty it.begun;
       left = tt;
@@ -237,21 +211,14 @@ makes_third Fresh a b count s it h =
       documents = it.documents;
     }
 makes_third Migrated a b count s it h =
-    let has = it.entries in
     let m = makes_table resent_text a b (schema_of (VersionTwo Migrated)) it.schema resent_made resent_is (second_plain Migrated) refl
     (second_create Migrated).0 (second_create Migrated).1 count h in
     let o = m.others in
     record {
       schema = m.schema_is;
       meta = o.0 ∙ it.meta;
-      entries = record {
-        inbox = o.1.1.1.1.1.1.1.0 ∙ has.inbox;
-        inbox_contents = unchanged o.1.1.1.1.1.1.1.1.0 has.inbox_contents;
-        outbox = o.1.1.1.0 ∙ has.outbox;
-        outbox_contents = unchanged o.1.1.1.1.0 has.outbox_contents;
-        evidence = o.1.1.1.1.1.0 ∙ has.evidence;
-        waits = o.1.1.1.1.1.1.0 ∙ has.waits;
-      };
+      entries = still_entries (VersionTwo Migrated) (VersionThree Migrated) a.now b.now s o.1.1.1.1.1.1.1.0 o.1.1.1.1.1.1.1.1.0 o.1.1.1.0 o.1.1.1.1.0
+          o.1.1.1.1.1.0 o.1.1.1.1.1.1.0 it.entries;
       version = still_origin o.1.1.1.1.1.1.1.1.1.0 it.version;
       begun = none_resent s.outbox m.empty it.begun;
       left = (o.1.0 ∙ it.left.0, (o.1.1.0 ∙ it.left.1.0, tt));
@@ -273,20 +240,12 @@ pub stands_raised : (number : ℕ) (way : Way) (a b : Connected) (s : State) →
     → ChangesTable a b (store_schema way) meta_tree (meta_row current_number s.next_in s.next_out ∷ []) → Stands (VersionThree way) b.now s
 unfolding IsWhole
 stands_raised number way a b s it one =
-    let has = it.entries in
     let k1 = keeping way AtMeta a.now.trees b.now.trees one.others in
     record {
       sound = one.sound;
       schema = one.schema_is;
       meta = one.rows_are;
-      entries = record {
-        inbox = k1 AtInbox (λ e. omega arith) ∙ has.inbox;
-        inbox_contents = unchanged (k1 AtInboxPiece (λ e. omega arith)) has.inbox_contents;
-        outbox = k1 AtOutbox (λ e. omega arith) ∙ has.outbox;
-        outbox_contents = unchanged (k1 AtOutboxPiece (λ e. omega arith)) has.outbox_contents;
-        evidence = k1 AtEvidence (λ e. omega arith) ∙ has.evidence;
-        waits = k1 AtWaiting (λ e. omega arith) ∙ has.waits;
-      };
+      entries = entries_kept way AtMeta a.now b.now s (λ n low high e. omega (arith, low, high, e)) one.others it.entries;
       version = still_origin (k1 AtOrigin (λ e. omega arith)) it.version;
       begun = still_resent (k1 AtResent (λ e. omega arith)) it.begun;
       left = still_emptied way AtMeta a.now b.now one.others it.left;

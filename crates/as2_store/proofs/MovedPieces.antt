@@ -1,5 +1,5 @@
 -- What the statements leave that move the contents of a migrated inbox.
-use Rattle.std.proofs.Common.{◌≡◌, ◌∙◌, ℕ, ℤ, ◌&&◌, nat_lt, List, [], ◌∷◌, ◌++◌, map, filter, Bool, true, false, not, Ok, refl, sym, ap, subst, arith, IsPermutation, append-nil}
+use Rattle.std.proofs.Common.{◌≡◌, ◌∙◌, ℕ, ℤ, ◌&&◌, nat_lt, List, [], ◌∷◌, ◌++◌, map, filter, Bool, true, not, Ok, refl, ap, subst, arith, IsPermutation, append-nil}
 use Rattle.std.proofs.lemmas.List.Sorted.{IsPermutation-map, IsPermutation-trans, length_permutation}
 use Rattle.sqlite.specs.declared.types.Value.TheVariants.{Null, Int}
 use Rattle.sqlite.specs.Cast.{cast_row}

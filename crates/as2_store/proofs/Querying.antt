@@ -35,6 +35,15 @@ queried_inside items sql params old new r inside ok err survives = record {
     go (Ok v) begun shown failed = shown_keeps sql params old new (items v) begun shown
     go (Err e) begun shown failed = failed_keeps sql params old new e failed
 
+-- the same of the first query of a transaction, over the connection as the transaction begins
+pub queried_first : {S V : Type 0} (g : Ghosts S) (old tx : Held S) (items : V → List Row) (sql : List ℕ) (params : Row) (new : Connected) (r : Result V Error)
+    → tx ≡ record old { in_transaction = true } → (HasCleanDisk new → IfOk r (λ v. Shown sql params (state g tx) new (items v)))
+    → (HasCleanDisk new → IfErr r (λ e. FailsToQuery sql params (state g tx) new e ⊎ IsTooLate sql params (state g tx) new e))
+    → Survives (state g tx) new (λ _. ⊥) → IsInside (state g (record old { in_transaction = true })) new
+queried_first {S = S} g old tx items sql params new r begun ok err survives =
+    subst (λ (t : Held S). IsInside (state g t) new) begun
+    (queried_inside items sql params (state g tx) new r (λ clean. subst (λ (t : Held S). IsTrue t.in_transaction) (sym begun) refl) ok err survives)
+
 -- ---- a query of the store's tables
 
 -- a query of the store's tables leaves each state that they stood for

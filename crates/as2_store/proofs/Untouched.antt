@@ -1,13 +1,14 @@
 -- Which tables a statement over one of them leaves as they were, however the tables came about.
-use Rattle.std.proofs.Common.{◌≡◌, ◌≢◌, ◌∙◌, ℕ, List, [], ◌∷◌, get_or, Bool, true, false, true≢false, refl, sym, ap}
+use Rattle.std.proofs.Common.{◌≡◌, ◌≢◌, ◌≤◌, ◌∙◌, ℕ, List, [], ◌∷◌, get_or, Bool, true, false, true≢false, refl, sym, ap, arith}
 use Rattle.std.specs.List.{AllByRecursion}
 use Rattle.sqlite.specs.Tree.{Trees}
 use Rattle.sqlite.specs.Effect.{Database}
 use Rattle.sqlite.specs.Order.{Row}
-use Rattle.as2_exchange.specs.State.{Version}
+use Rattle.sql_tables.proofs.Sorting.{unchanged}
+use Rattle.as2_exchange.specs.State.{State, Version}
 use Rattle.as2_exchange.specs.declared.outbox.OutEntry.{OutEntry}
-use Rattle.as2_store.specs.Tables.{Way, Fresh, Migrated, store_schema, meta_tree, inbox_tree, inbox_piece_tree, outbox_tree, outbox_piece_tree, evidence_tree, waiting_tree, origin_tree, resent_tree, emptied_tables, first_inbox_tree, first_piece_tree}
-use Rattle.as2_store.specs.Stands.{HasOrigin, HasResent, AreEmptied}
+use Rattle.as2_store.specs.Tables.{Way, Fresh, Migrated, Layout, VersionThree, inbox_at, inbox_piece_at, store_schema, meta_tree, inbox_tree, inbox_piece_tree, outbox_tree, outbox_piece_tree, evidence_tree, waiting_tree, origin_tree, resent_tree, emptied_tables, first_inbox_tree, first_piece_tree}
+use Rattle.as2_store.specs.Stands.{HasEntries, HasOrigin, HasResent, AreEmptied}
 
 -- ---- the tables by name
 
@@ -137,3 +138,29 @@ still_origin same it = record { number = it.number; rows_are = same ∙ it.rows_
 
 pub still_resent : {rows new : List Row} {outbox : List OutEntry} → new ≡ rows → HasResent rows outbox → HasResent new outbox
 still_resent same it = record { was = it.was; rows_are = same ∙ it.rows_are; begun = it.begun }
+
+-- ---- the entries
+
+-- they are in trees with the same rows, of tables of another version too
+pub still_entries : (was layout : Layout) (old new : Database) (s : State) → new.trees (inbox_at layout) ≡ old.trees (inbox_at was)
+    → new.trees (inbox_piece_at layout) ≡ old.trees (inbox_piece_at was) → new.trees outbox_tree ≡ old.trees outbox_tree
+    → new.trees outbox_piece_tree ≡ old.trees outbox_piece_tree → new.trees evidence_tree ≡ old.trees evidence_tree
+    → new.trees waiting_tree ≡ old.trees waiting_tree → HasEntries was old s → HasEntries layout new s
+still_entries was layout old new s inbox inbox_piece outbox outbox_piece evidence waits has = record {
+  inbox = inbox ∙ has.inbox;
+  inbox_contents = unchanged inbox_piece has.inbox_contents;
+  outbox = outbox ∙ has.outbox;
+  outbox_contents = unchanged outbox_piece has.outbox_contents;
+  evidence = evidence ∙ has.evidence;
+  waits = waits ∙ has.waits;
+}
+
+-- a statement over a table that isn't one of theirs leaves them
+pub entries_kept : (way : Way) (p : Part) (old new : Database) (s : State) → ((n : ℕ) → 1 ≤ n → n ≤ 6 → n ≢ code p)
+    → Others way (tree_of way p) old.trees new.trees → HasEntries (VersionThree way) old s → HasEntries (VersionThree way) new s
+entries_kept way p old new s apart others has =
+    let k = keeping way p old.trees new.trees others in
+    still_entries (VersionThree way) (VersionThree way) old new s (k AtInbox (apart 1 (omega arith) (omega arith)))
+    (k AtInboxPiece (apart 2 (omega arith) (omega arith))) (k AtOutbox (apart 3 (omega arith) (omega arith)))
+    (k AtOutboxPiece (apart 4 (omega arith) (omega arith))) (k AtEvidence (apart 5 (omega arith) (omega arith)))
+    (k AtWaiting (apart 6 (omega arith) (omega arith))) has

@@ -13,7 +13,8 @@ use Rattle.as2_store.proofs.contents.put_piece.Goals as goal
 
 pub returns-in_err-execute-in-Inbox-clause-within : goal.returns-in_err-execute-in-Inbox-clause-within
 returns-in_err-execute-in-Inbox-clause-within g c =
-    ran_inside g.S.Store _ _ c.args.tx.now.conn.now c.execute.new.self.conn.now c.execute.result _ c.execute.ensures.ended c.execute.ensures.runs c.execute.ensures.survives
+    ran_inside g.S.Store _ _ c.args.tx.now.conn.now c.execute.new.self.conn.now c.execute.result _
+    c.execute.ensures.ended c.execute.ensures.runs c.execute.ensures.survives
 
 pub returns-in_err-execute-in-Outbox-clause-within : goal.returns-in_err-execute-in-Outbox-clause-within
 returns-in_err-execute-in-Outbox-clause-within g c =

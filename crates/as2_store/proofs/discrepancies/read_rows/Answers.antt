@@ -16,4 +16,5 @@ rows-preserved c ws all =
     pushed ∙ ap₂ (λ l w. l ++ w ∷ []) (c.rows.invariant ws all) shown ∙ sym (take_more ws i none within)
 
 pub returns-clause-shown : goal.returns-clause-shown
-returns-clause-shown c ws all = c.rows.invariant ws all ∙ take_all c.rows.row-index ws (omega (arith, c.rows-test.false, ap length all, length-map ws row_shown))
+returns-clause-shown c ws all = c.rows.invariant ws all
+    ∙ take_all c.rows.row-index ws (omega (arith, c.rows-test.false, ap length all, length-map ws row_shown))

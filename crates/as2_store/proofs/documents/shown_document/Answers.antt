@@ -48,7 +48,8 @@ pub returns-in_err-evidence-clause-found : goal.returns-in_err-evidence-clause-f
 returns-in_err-evidence-clause-found g c =
     read_then _ (λ _ _. ⊥) _ _ _ _ c.in_ok-content.content c.from_residual-in_err-evidence.result
     (λ s b r content none. absurd none) c.in_ok-content.ensures.content
-    (read_bad _ (λ _ _. ⊥) _ _ c.evidence_in.result c.from_residual-in_err-evidence.result c.from_residual-in_err-evidence.ensures.0 c.evidence_in.ensures.evidence)
+    (read_bad _ (λ _ _. ⊥) _ _ c.evidence_in.result c.from_residual-in_err-evidence.result c.from_residual-in_err-evidence.ensures.0
+    c.evidence_in.ensures.evidence)
 
 pub returns-in_err-begun-clause-found : goal.returns-in_err-begun-clause-found
 returns-in_err-begun-clause-found g c =

@@ -1,16 +1,15 @@
-use Rattle.std.proofs.Common.{rules, Vec, Global, ◌≡◌, ◌∙◌, ◌++◌, inl, [], ◌∷◌, map, Some, None, Ok, Err, refl, sym, subst, arith}
+-- `entries`, exit by exit: the query failed, its next row can't be given, there is none, its row can't be read, or can't be listed. The loop's
+-- turn begins at `mid` and is at `now` behind its row; what is listed so far is `HasListed` (ListedRows.antt), where the ends of a turn are lemmas.
+use Rattle.std.proofs.Common.{rules, ◌≡◌, ◌∙◌, ◌++◌, [], ◌∷◌, map, Some, None, Ok, Err, refl, sym, subst, arith}
 use Rattle.sqlite.specs.Given.{Advances, row_if}
 use Rattle.sqlite.specs.Held.{state}
 use Rattle.sql_tables.proofs.Inside.{fails_to_query}
 use Rattle.as2_rows.specs.Rows.{in_shown}
-use Rattle.as2_exchange.specs.State.{State}
 use Rattle.as2_exchange.specs.declared.fault.StoreFault.TheVariants.{Memory}
 use Rattle.as2_records.specs.Summaries.{in_summary}
-use Rattle.as2_records.specs.declared.summaries.InRow.{InRow}
-use Rattle.as2_store.specs.Calls.{ReadsTables}
 use Rattle.as2_store.proofs.InboxQueries.{lists_all, one_more_entry}
-use Rattle.as2_store.proofs.ListedRows.{all_given, leaves_nothing, lists, lists_none, none_listed, one_more, rests_still, still_nothing}
-use Rattle.as2_store.proofs.Querying.{read_bad, told_ok}
+use Rattle.as2_store.proofs.ListedRows.{breaks_off, gives_all, leaves_nothing, lists_none, none_listed, one_more, rests_still, still_nothing, stops}
+use Rattle.as2_store.proofs.Querying.{told_ok}
 use Rattle.as2_store.proofs.Statements.{in_all_text}
 use Rattle.as2_store.proofs.Texts.{in_all_plain}
 use Rattle.as2_store.proofs.listing.entries.Goals as goal
@@ -39,65 +38,32 @@ rows-init g c =
 
 pub returns-in-Err-advance-clause-entries : goal.returns-in-Err-advance-clause-entries
 returns-in-Err-advance-clause-entries g c =
-    let old = state g.S.Store c.args.conn.now in
-    let mid = state g.S.Store c.rows.rows.conn.now in
-    let now = c.advance.new.self.conn.now in
-    let same : now ≡ c.conn-in-Err-advance-1.given.0 = search rules in
-    subst (λ h. ReadsTables (λ s entries. entries.items ≡ map in_summary s.inbox) old (state g.S.Store h) (Err c.fault_of-in-Err-advance.result)) same
-    (lists_none _ old (state g.S.Store now) _ (still_nothing old mid (state g.S.Store now) c.rows.invariant.2 c.advance.ensures.survives)
-    (λ clean s r.
-    let it = c.rows.invariant.3 (omega (arith, c.advance.ensures.survives.clean, clean)) s r in
-    rests_still mid (state g.S.Store now) s (rests_still old mid s r (inl it.same))
-    (fails_to_query in_all_text [] mid (state g.S.Store now) c.in-Err-advance.error (c.in-Err-advance.ensures.err clean in_all_text [] it.given it.has))))
+    stops g.S.Store in_all_text [] in_shown (map in_summary) _ c.args.conn.now c.rows.rows.conn.now c.advance.new.self.conn.now
+    c.conn-in-Err-advance-1.given.0 c.rows.entries.items (search rules) c.rows.invariant.2 c.rows.invariant.3 c.advance.ensures.survives
+    c.fault_of-in-Err-advance.result c.in-Err-advance.error c.in-Err-advance.ensures.err
 
 pub returns-in_default-clause-entries : goal.returns-in_default-clause-entries
 returns-in_default-clause-entries g c =
-    let old = state g.S.Store c.args.conn.now in
-    let mid = state g.S.Store c.rows.rows.conn.now in
+    let mid = c.rows.rows.conn.now in
     let now = c.advance.new.self.conn.now in
-    let new = state g.S.Store now in
-    let same : now ≡ c.conn-in_default-1.given.0 = search rules in
-    let moved = c.in-Ok-advance.ensures in
     let none : row_if c.advance.new.self.has_row now ≡ None = rw c.in_default.is at (sym c.get.ensures) in
-    subst (λ h. ReadsTables (λ s entries. entries.items ≡ map in_summary s.inbox) old (state g.S.Store h) (Ok c.rows.entries)) same
-    (lists _ old new _ c.requires.open (λ clean. (moved.same clean).0.is_open) (still_nothing old mid new c.rows.invariant.2 c.advance.ensures.survives)
-    (λ clean s r.
-    let it = c.rows.invariant.3 (omega (arith, c.advance.ensures.survives.clean, clean)) s r in
-    let before = rests_still old mid s r (inl it.same) in (
-      rests_still mid new s before (inl (moved.same clean)),
-      it.read s.inbox (lists_all mid new it.given
-          (all_given g.S.Store in_all_text [] in_shown (map in_summary) c.args.conn.now c.rows.rows.conn.now now _ it
-          (subst (Advances g.S.Store c.rows.rows.conn.now now) none (moved.ok clean))) s before),
-    )))
+    gives_all g.S.Store in_all_text [] in_shown (map in_summary) _ c.args.conn.now mid now
+    c.conn-in_default-1.given.0 c.rows.entries.items (search rules) c.rows.invariant.2 c.rows.invariant.3 c.advance.ensures.survives
+    c.rows.entries c.requires.open c.in-Ok-advance.ensures.same
+    (λ clean. subst (Advances g.S.Store mid now) none (c.in-Ok-advance.ensures.ok clean))
+    (λ given s stood all read. read s.inbox (lists_all (state g.S.Store mid) (state g.S.Store now) given all s stood))
 
 pub returns-in_err-entry-clause-entries : goal.returns-in_err-entry-clause-entries
 returns-in_err-entry-clause-entries g c =
-    let old = state g.S.Store c.args.conn.now in
-    let mid = state g.S.Store c.rows.rows.conn.now in
-    let now = c.advance.new.self.conn.now in
-    let new = state g.S.Store now in
-    let same : now ≡ c.conn-in_err-entry-1.given.0 = search rules in
-    let fits : State → Vec InRow Global → Type 0 = λ s entries. entries.items ≡ map in_summary s.inbox in
-    subst (λ h. ReadsTables fits old (state g.S.Store h) c.from_residual.result) same
-    (read_bad fits fits old new (Err Memory) c.from_residual.result c.from_residual.ensures.0
-    (lists_none fits old new Memory (still_nothing old mid new c.rows.invariant.2 c.advance.ensures.survives)
-    (λ clean s r.
-    let it = c.rows.invariant.3 (omega (arith, c.advance.ensures.survives.clean, clean)) s r in
-    rests_still mid new s (rests_still old mid s r (inl it.same)) (inl (c.in-Ok-advance.ensures.same clean)))))
+    breaks_off g.S.Store in_all_text [] in_shown (map in_summary) _ c.args.conn.now c.rows.rows.conn.now c.advance.new.self.conn.now
+    c.conn-in_err-entry-1.given.0 c.rows.entries.items (search rules) c.rows.invariant.2 c.rows.invariant.3 c.advance.ensures.survives
+    c.from_residual.result c.from_residual.ensures.0 c.in-Ok-advance.ensures.same
 
 pub returns-in-Err-push-clause-entries : goal.returns-in-Err-push-clause-entries
 returns-in-Err-push-clause-entries g c =
-    let old = state g.S.Store c.args.conn.now in
-    let mid = state g.S.Store c.rows.rows.conn.now in
-    let now = c.advance.new.self.conn.now in
-    let new = state g.S.Store now in
-    let same : now ≡ c.conn-in-Err-push-1.given.0 = search rules in
-    let fits : State → Vec InRow Global → Type 0 = λ s entries. entries.items ≡ map in_summary s.inbox in
-    subst (λ h. ReadsTables fits old (state g.S.Store h) (Err Memory)) same
-    (lists_none fits old new Memory (still_nothing old mid new c.rows.invariant.2 c.advance.ensures.survives)
-    (λ clean s r.
-    let it = c.rows.invariant.3 (omega (arith, c.advance.ensures.survives.clean, clean)) s r in
-    rests_still mid new s (rests_still old mid s r (inl it.same)) (inl (c.in-Ok-advance.ensures.same clean))))
+    breaks_off g.S.Store in_all_text [] in_shown (map in_summary) _ c.args.conn.now c.rows.rows.conn.now c.advance.new.self.conn.now
+    c.conn-in-Err-push-1.given.0 c.rows.entries.items (search rules) c.rows.invariant.2 c.rows.invariant.3 c.advance.ensures.survives
+    (Err Memory) refl c.in-Ok-advance.ensures.same
 
 pub rows-preserved : goal.rows-preserved
 rows-preserved g c =

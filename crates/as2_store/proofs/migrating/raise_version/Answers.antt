@@ -9,7 +9,8 @@ use Rattle.as2_store.proofs.migrating.raise_version.Goals as goal
 
 pub returns-in_err-execute-clause-within : goal.returns-in_err-execute-clause-within
 returns-in_err-execute-clause-within g c =
-    ran_inside g.S.Store _ _ c.args.tx.now.conn.now c.execute.new.self.conn.now c.execute.result _ c.execute.ensures.ended c.execute.ensures.runs c.execute.ensures.survives
+    ran_inside g.S.Store _ _ c.args.tx.now.conn.now c.execute.new.self.conn.now c.execute.result _
+    c.execute.ensures.ended c.execute.ensures.runs c.execute.ensures.survives
 
 pub returns-clause-raised : goal.returns-clause-raised
 returns-clause-raised g c clean number way s it =

@@ -13,7 +13,8 @@ use Rattle.as2_store.proofs.progress.set_progress.Goals as goal
 
 pub returns-clause-within : goal.returns-clause-within
 returns-clause-within g c =
-    ran_inside g.S.Store _ _ c.args.tx.now.conn.now c.execute.new.self.conn.now c.execute.result _ c.execute.ensures.ended c.execute.ensures.runs c.execute.ensures.survives
+    ran_inside g.S.Store _ _ c.args.tx.now.conn.now c.execute.new.self.conn.now c.execute.result _
+    c.execute.ensures.ended c.execute.ensures.runs c.execute.ensures.survives
 
 pub returns-clause-put : goal.returns-clause-put
 returns-clause-put g c clean = if_made c.execute.result _ (λ count is way s it.

@@ -1,75 +1,69 @@
-use Rattle.std.proofs.Common.{rules, true, ◌≡◌, refl, subst, arith, Ok, Some}
+-- `query_all`, exit by exit: the query failed, the commit failed, committed. A read is a write of the same state (`as_read`); the ends of a call are
+-- lemmas of Committing.antt.
+use Rattle.std.proofs.Common.{true, rules, ◌≡◌, refl, sym, subst, arith, Ok, Some, IsTrue}
 use Rattle.std.proofs.lemmas.Result.{IfOk-from_err}
 use Rattle.sqlite.specs.Held.{state}
 use Rattle.sqlite.specs.Values.{bound}
 use Rattle.sqlite.specs.State.{HasCleanDisk, Shown}
-use Rattle.as2_store.specs.Calls.{ReadsTables}
-use Rattle.as2_store.proofs.TransactionEnds.{undone}
-use Rattle.as2_store.proofs.Committing.{commits, gives_up, fails_to_commit}
-use Rattle.as2_store.proofs.Querying.{queried_inside, query_keeps, answers, as_read}
+use Rattle.as2_store.specs.Calls.{IsInside}
+use Rattle.as2_store.proofs.Committing.{committed, dropped, uncommitted, FollowsEach}
+use Rattle.as2_store.proofs.Querying.{queried_first, query_keeps, answers, as_read}
 use Rattle.sql_tables.proofs.Asking.{shown_stays}
+use Rattle.as2_store.proofs.reading.query_all.Given.{Over}
+use Rattle.as2_store.proofs.reading.query_all.Goals.{After-query_all, After-commit}
 use Rattle.as2_store.proofs.reading.query_all.Goals as goal
+
+-- the query ran, and nothing is committed
+inside : (g : Over) (c : After-query_all g)
+    → IsInside (state g.S.Store (record c.args.conn.now { in_transaction = true })) (state g.S.Store c.query_all.new.self.conn.now)
+inside g c =
+    queried_first g.S.Store c.args.conn.now _ (λ rows. rows.items) c.args.sql.now (bound c.args.params.now) (state g.S.Store c.query_all.new.self.conn.now)
+    c.query_all.result c.transaction-tx.ensures.begun c.query_all.ensures.ok c.query_all.ensures.err c.query_all.ensures.survives
+
+module _ (g : Over) (c : After-commit g) where
+  -- it showed the rows
+  shown : HasCleanDisk (state g.S.Store c.query_all.new.self.conn.now)
+      → Shown c.args.sql.now (bound c.args.params.now) (state g.S.Store (record c.args.conn.now { in_transaction = true }))
+      (state g.S.Store c.query_all.new.self.conn.now) c.in_ok-rows.rows.items
+  shown = rw c.transaction-tx.ensures.begun at c.in_ok-rows.ensures.ok
+
+  -- the transaction goes on
+  stays : HasCleanDisk (state g.S.Store c.query_all.new.self.conn.now) → IsTrue (state g.S.Store c.query_all.new.self.conn.now).in_transaction
+  stays clean = shown_stays c.args.sql.now (bound c.args.params.now) (state g.S.Store (record c.args.conn.now { in_transaction = true }))
+      (state g.S.Store c.query_all.new.self.conn.now) c.in_ok-rows.rows.items refl (shown clean)
+
+  -- and the state is left
+  keeps : HasCleanDisk (state g.S.Store c.query_all.new.self.conn.now)
+      → FollowsEach g.S.Store c.args.conn.now (state g.S.Store c.query_all.new.self.conn.now) Some
+  keeps = query_keeps g.S.Store c.args.conn.now (state g.S.Store c.query_all.new.self.conn.now) c.args.sql.now (bound c.args.params.now)
+      c.in_ok-rows.rows.items c.requires.plain shown
 
 pub returns-in_err-rows-clause-shown : goal.returns-in_err-rows-clause-shown
 returns-in_err-rows-clause-shown g c =
-    let sql = c.args.sql.now in
-    let params = bound c.args.params.now in
-    let old = c.args.conn.now in
-    let begun = state g.S.Store (record old { in_transaction = true }) in
-    let mid = state g.S.Store c.query_all.new.self.conn.now in
-    let end = c.drop-tx.new.self.0 in
-    let same : end ≡ c.conn-1.given.0 = search rules in
-    let inside = queried_inside (λ rows. rows.items) sql params begun mid c.query_all.result (λ clean. refl)
-    (rw c.transaction-tx.ensures.begun at c.query_all.ensures.ok) (rw c.transaction-tx.ensures.begun at c.query_all.ensures.err)
-    (rw c.transaction-tx.ensures.begun at c.query_all.ensures.survives) in
-    subst (λ h. ReadsTables (λ s rows. Shown sql params (state g.S.Store old) (state g.S.Store old) rows.items) (state g.S.Store old)
-    (state g.S.Store h) c.from_residual.result) same
-    (as_read _ (state g.S.Store old) (state g.S.Store end) c.from_residual.result
-    (gives_up g.S.Store old mid end Some c.from_residual.result c.from_residual.ensures.0 inside c.drop-tx.ensures.survives c.drop-tx.ensures.undone)
-    (λ late. IfOk-from_err c.from_residual.result _ c.from_residual.ensures.0))
+    as_read _ (state g.S.Store c.args.conn.now) (state g.S.Store c.conn-1.given.0) c.from_residual.result
+    (dropped g.S.Store c.args.conn.now (state g.S.Store c.query_all.new.self.conn.now) c.drop-tx.new.self.0 c.conn-1.given.0 (search rules) Some
+    (inside g (goal.at.returns-in_err-rows-clause-shown g c).After-query_all) c.from_residual.result c.from_residual.ensures.0
+    c.drop-tx.ensures.survives c.drop-tx.ensures.undone)
+    (λ late. IfOk-from_err c.from_residual.result _ c.from_residual.ensures.0)
 
 pub returns-in_err-commit-clause-shown : goal.returns-in_err-commit-clause-shown
 returns-in_err-commit-clause-shown g c =
-    let sql = c.args.sql.now in
-    let params = bound c.args.params.now in
-    let old = c.args.conn.now in
-    let begun = state g.S.Store (record old { in_transaction = true }) in
-    let mid = state g.S.Store c.query_all.new.self.conn.now in
-    let end = c.commit.new.self.0 in
-    let same : end ≡ c.conn-2-1.given.0 = search rules in
-    let inside = queried_inside (λ rows. rows.items) sql params begun mid c.query_all.result (λ clean. refl)
-    (rw c.transaction-tx.ensures.begun at c.query_all.ensures.ok) (rw c.transaction-tx.ensures.begun at c.query_all.ensures.err)
-    (rw c.transaction-tx.ensures.begun at c.query_all.ensures.survives) in
-    let rows = c.in_ok-rows.rows.items in
-    let shown : HasCleanDisk mid → Shown sql params begun mid rows = rw c.transaction-tx.ensures.begun at c.in_ok-rows.ensures.ok in
-    let done = query_keeps g.S.Store old mid sql params rows c.requires.plain shown in
-    let was : HasCleanDisk (state g.S.Store end) → HasCleanDisk mid = λ late. omega (arith, c.commit.ensures.survives.clean, late) in
-    subst (λ h. ReadsTables (λ s rows. Shown sql params (state g.S.Store old) (state g.S.Store old) rows.items) (state g.S.Store old)
-    (state g.S.Store h) c.from_residual-in_err-commit.result) same
-    (as_read _ (state g.S.Store old) (state g.S.Store end) c.from_residual-in_err-commit.result
-    (fails_to_commit g.S.Store old mid end Some c.from_residual-in_err-commit.result c.from_residual-in_err-commit.ensures.0 inside c.commit.ensures.survives done
-    (λ late. undone mid (state g.S.Store end) _ (shown_stays sql params begun mid rows refl (shown (was late))) (c.in_err-commit.ensures.err late)))
-    (λ late. IfOk-from_err c.from_residual-in_err-commit.result _ c.from_residual-in_err-commit.ensures.0))
+    let at = (goal.at.returns-in_err-commit-clause-shown g c).After-commit in
+    as_read _ (state g.S.Store c.args.conn.now) (state g.S.Store c.conn-2-1.given.0) c.from_residual-in_err-commit.result
+    (uncommitted g.S.Store c.args.conn.now (state g.S.Store c.query_all.new.self.conn.now) c.commit.new.self.0 c.conn-2-1.given.0 (search rules) Some
+    (inside g (goal.at.After-commit g at).After-query_all) c.from_residual-in_err-commit.result _ c.from_residual-in_err-commit.ensures.0
+    c.commit.ensures.survives (keeps g at) (stays g at) c.in_err-commit.ensures.err)
+    (λ late. IfOk-from_err c.from_residual-in_err-commit.result _ c.from_residual-in_err-commit.ensures.0)
 
 pub returns-clause-shown : goal.returns-clause-shown
 returns-clause-shown g c =
-    let sql = c.args.sql.now in
-    let params = bound c.args.params.now in
-    let old = c.args.conn.now in
-    let begun = state g.S.Store (record old { in_transaction = true }) in
+    let at = (goal.at.returns-clause-shown g c).After-commit in
     let mid = state g.S.Store c.query_all.new.self.conn.now in
-    let end = c.commit.new.self.0 in
-    let same : end ≡ c.conn-2-1.given.0 = search rules in
-    let inside = queried_inside (λ rows. rows.items) sql params begun mid c.query_all.result (λ clean. refl)
-    (rw c.transaction-tx.ensures.begun at c.query_all.ensures.ok) (rw c.transaction-tx.ensures.begun at c.query_all.ensures.err)
-    (rw c.transaction-tx.ensures.begun at c.query_all.ensures.survives) in
-    let rows = c.in_ok-rows.rows.items in
-    let shown : HasCleanDisk mid → Shown sql params begun mid rows = rw c.transaction-tx.ensures.begun at c.in_ok-rows.ensures.ok in
-    let done = query_keeps g.S.Store old mid sql params rows c.requires.plain shown in
-    let was : HasCleanDisk (state g.S.Store end) → HasCleanDisk mid = λ late. omega (arith, c.commit.ensures.survives.clean, late) in
-    subst (λ h. ReadsTables (λ s rows. Shown sql params (state g.S.Store old) (state g.S.Store old) rows.items) (state g.S.Store old)
-    (state g.S.Store h) (Ok c.in_ok-rows.rows)) same
-    (as_read _ (state g.S.Store old) (state g.S.Store end) (Ok c.in_ok-rows.rows)
-    (commits g.S.Store old mid end Some c.in_ok-rows.rows inside c.commit.ensures.survives done (λ late. (c.in_ok-commit.ensures.ok late).1)
-    (λ db opened may. g.met.S.Store.settled end.store db opened may))
-    (λ late. answers g.S.Store old mid sql params rows c.requires.plain (shown (was late))))
+    let same : c.commit.new.self.0 ≡ c.conn-2-1.given.0 = search rules in
+    let was : HasCleanDisk (state g.S.Store c.conn-2-1.given.0) → HasCleanDisk mid =
+    λ late. omega (arith, c.commit.ensures.survives.clean, subst (λ h. HasCleanDisk (state g.S.Store h)) (sym same) late) in
+    as_read _ (state g.S.Store c.args.conn.now) (state g.S.Store c.conn-2-1.given.0) (Ok c.in_ok-rows.rows)
+    (committed g.S.Store c.args.conn.now mid c.commit.new.self.0 c.conn-2-1.given.0 same Some (inside g (goal.at.After-commit g at).After-query_all)
+    c.in_ok-rows.rows c.commit.ensures.survives (keeps g at) (λ late. (c.in_ok-commit.ensures.ok late).1)
+    (λ db opened may. g.met.S.Store.settled c.commit.new.self.0.store db opened may))
+    (λ late. answers g.S.Store c.args.conn.now mid c.args.sql.now (bound c.args.params.now) c.in_ok-rows.rows.items c.requires.plain (shown g at (was late)))

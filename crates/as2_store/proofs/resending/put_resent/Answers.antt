@@ -10,7 +10,8 @@ use Rattle.as2_store.proofs.resending.put_resent.Goals as goal
 
 pub returns-in_err-execute-clause-within : goal.returns-in_err-execute-clause-within
 returns-in_err-execute-clause-within g c =
-    ran_inside g.S.Store _ _ c.args.tx.now.conn.now c.execute.new.self.conn.now c.execute.result _ c.execute.ensures.ended c.execute.ensures.runs c.execute.ensures.survives
+    ran_inside g.S.Store _ _ c.args.tx.now.conn.now c.execute.new.self.conn.now c.execute.result _
+    c.execute.ensures.ended c.execute.ensures.runs c.execute.ensures.survives
 
 pub returns-clause-put : goal.returns-clause-put
 returns-clause-put g c clean way has =

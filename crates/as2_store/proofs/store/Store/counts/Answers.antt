@@ -10,7 +10,8 @@ returns-in_err-receipt_stages-clause-counts g c =
     read_of _ _ _ _ _ (ap (state g.S.Store) c.self.view_is)
     (read_then _ _ (λ s counts. counts ≡ counts_of s) _ _ _ _ c.from_residual-in_err-receipt_stages.result
     (λ s found rests known more. more) c.in_ok-details.ensures.details
-    (read_bad _ (λ s counts. counts ≡ counts_of s) _ _ _ c.from_residual-in_err-receipt_stages.result c.from_residual-in_err-receipt_stages.ensures.0 c.in_err-receipt_stages.ensures.receipt_stages))
+    (read_bad _ (λ s counts. counts ≡ counts_of s) _ _ _ c.from_residual-in_err-receipt_stages.result c.from_residual-in_err-receipt_stages.ensures.0
+    c.in_err-receipt_stages.ensures.receipt_stages))
 
 pub returns-clause-counts : goal.returns-clause-counts
 returns-clause-counts g c =
