@@ -1,9 +1,8 @@
 -- The identifier that a document gets is one, whatever its number.
 -- The plan: it stands in brackets, which are no blanks (`bare`); all of it is printable (`all_printable`), since digits and the bytes of a
 -- domain are; and with 20 digits and a domain of 253 bytes its value is shorter than 998 (`own_identifier`).
-use Rattle.std.proofs.Common.{◌≡◌, ◌∙◌, ℕ, ◌+◌, ◌-◌, ◌<◌, ◌≤◌, ◌^◌, Bool, true, ◌&&◌, List, [], ◌∷◌, ◌++◌, length, drop, reverse, refl, sym, ap, arith, inl, inr}
-use Rattle.std.specs.Prelude.{codes, decimal, IsTrue}
-use Rattle.std.specs.Char.{is_ascii_alphanumeric}
+use Rattle.std.proofs.Common.{◌≡◌, ◌∙◌, ℕ, ◌+◌, ◌-◌, ◌<◌, ◌≤◌, ◌^◌, Bool, true, List, [], ◌∷◌, ◌++◌, length, drop, reverse, refl, sym, ap, arith, inl, inr}
+use Rattle.std.specs.Prelude.{codes, decimal}
 use Rattle.std.specs.List.{list_all}
 use Rattle.std.specs.Str.{all_ascii_digits}
 use Rattle.std.proofs.lemmas.Bool.{and_parts, cases_Bool}

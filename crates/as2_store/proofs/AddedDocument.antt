@@ -1,6 +1,5 @@
 -- What the tables stand for with a document more.
-use Rattle.std.proofs.Common.{◌≡◌, ℕ, ◌+◌, ◌<◌, ◌==◌, nat_le, List, [], ◌∷◌, ◌++◌, map, option_map, Some, None, IsTrue, true, Ok, cond, refl, sym, ap, subst, ◌∙◌, arith, append-nil}
-use Rattle.std.proofs.lemmas.Bool.Decides.{nat_tests}
+use Rattle.std.proofs.Common.{◌≡◌, ℕ, ◌+◌, ◌<◌, nat_le, List, [], ◌∷◌, ◌++◌, map, option_map, Some, None, IsTrue, Ok, cond, refl, sym, ap, subst, ◌∙◌, arith, append-nil}
 use Rattle.std.specs.List.{AllByRecursion, cons_option}
 use Rattle.std.proofs.lemmas.List.Concat.{flat_map-append}
 use Rattle.std.proofs.lemmas.List.Elements.{filter_map-append}
@@ -30,7 +29,7 @@ use Rattle.as2_store.proofs.Committing.{FollowsEach}
 use Rattle.as2_store.proofs.NumberedRows.{puts_between}
 use Rattle.as2_store.proofs.WaitingRows.{cast_optional}
 use Rattle.as2_store.proofs.WaitingAmong.{put_among}
-use Rattle.as2_store.proofs.AddedTables.{below_all, wrote}
+use Rattle.as2_store.proofs.AddedTables.{below_all, itself, wrote}
 use Rattle.as2_store.proofs.ResentRows.{resent_more}
 use Rattle.as2_store.proofs.Untouched.{AtMeta, AtInbox, AtInboxPiece, AtOutbox, AtOutboxPiece, AtEvidence, AtWaiting, AtOrigin, AtResent, keeping, entries_kept, still_emptied, still_origin, still_resent}
 
@@ -157,6 +156,3 @@ adds_document g old mid last x small was opened put raised clean = record {
         record { way = way; stands = stands_submitted way (state g old) mid last s x here.stands two.0 small one two.1 },
       );
 }
-  where
-    itself : (m n : ℕ) → m ≡ n → (m == n) ≡ true
-    itself m n same = grind (arith, nat_tests, same)

@@ -124,6 +124,9 @@ stands_received way a d e s x it is small mid four =
       documents = it.documents;
     }
 
+pub itself : (m n : ℕ) → m ≡ n → (m == n) ≡ true
+itself m n same = grind (arith, nat_tests, same)
+
 -- an entry is added under the next number, and under no other
 pub adds : {S : Type 0} (g : Ghosts S) (old : Held S) (mid last : Connected) (x : InEntry) → x.number < end_of_numbers → (HasCleanDisk last → HasCleanDisk mid)
     → (HasCleanDisk mid → IsTrue (state g old).is_open)
@@ -144,6 +147,3 @@ adds g old mid last x small was opened put raised clean = record {
         record { way = way; stands = stands_received way (state g old) mid last s x here.stands two.0 small one two.1 },
       );
 }
-  where
-    itself : (m n : ℕ) → m ≡ n → (m == n) ≡ true
-    itself m n same = grind (arith, nat_tests, same)

@@ -79,7 +79,7 @@ module _ {S : Type 0} (g : Ghosts S) (old : Held S) (last : Connected) (end : He
     crash = crash;
   }
 
-  pub gives_up : {A E : Type 0} (r : Result A E) → IsErr r → IsInside at_begin last → Survives last (state g end) (λ _. ⊥)
+  gives_up : {A E : Type 0} (r : Result A E) → IsErr r → IsInside at_begin last → Survives last (state g end) (λ _. ⊥)
       → (HasCleanDisk (state g end) → IsRolledBack last (state g end)) → WritesTables {A = A} {E = E} next (state g old) (state g end) r
   gives_up r err inside late back =
       fails r err inside (λ clean. omega (arith, late.clean, clean)) back
@@ -93,7 +93,7 @@ module _ {S : Type 0} (g : Ghosts S) (old : Held S) (last : Connected) (end : He
       (λ clean db is. committed_next g old last next (done (omega (arith, late.clean, clean))) db is)
       (survives_begin g old last (λ _. ⊥) inside.survives) late
 
-  pub fails_to_commit : {A E : Type 0} (r : Result A E) → IsErr r → IsInside at_begin last → Survives last (state g end) (λ db. db ≡ last.now.trees)
+  fails_to_commit : {A E : Type 0} (r : Result A E) → IsErr r → IsInside at_begin last → Survives last (state g end) (λ db. db ≡ last.now.trees)
       → (HasCleanDisk last → FollowsEach g old last next) → (HasCleanDisk (state g end) → IsRolledBack last (state g end))
       → WritesTables {A = A} {E = E} next (state g old) (state g end) r
   fails_to_commit r err inside late done back =

@@ -1,15 +1,18 @@
 -- What the statements of a migration leave, and what the tables stand for then.
-use Rattle.std.proofs.Common.{◌≡◌, ◌∙◌, ℕ, ◌||◌, nat_le, List, [], ◌∷◌, map, filter, Ok, Bool, true, false, pos, negsuc, refl, sym, ap, ap₂, subst, arith}
+use Rattle.std.proofs.Common.{◌≡◌, ◌∙◌, ℕ, ◌||◌, nat_le, List, [], ◌∷◌, ◌++◌, map, filter, Ok, Bool, true, false, pos, negsuc, refl, sym, ap, ap₂, subst, arith}
 use Rattle.std.specs.List.{AllByRecursion}
 use Rattle.std.proofs.lemmas.List.Sorted.{IsPermutation-refl}
 use Rattle.sqlite.specs.declared.types.Value.TheVariants.{Int}
 use Rattle.sqlite.specs.Cast.{cast_row}
+use Rattle.sqlite.specs.Change.{KeepsRows}
 use Rattle.sqlite.specs.Edit.{numbered, put_all}
 use Rattle.sqlite.specs.Program.{overlay}
 use Rattle.sqlite.specs.Rowids.TheVariants.{Chosen}
 use Rattle.sqlite.specs.Term.{lit}
 use Rattle.sqlite.specs.Order.{Row}
+use Rattle.sqlite.specs.Effect.{Database}
 use Rattle.sqlite.specs.State.{State as Connected, Executes}
+use Rattle.sqlite.specs.Table.{Table}
 use Rattle.sql_tables.specs.Changes.{ChangesTable}
 use Rattle.sql_tables.proofs.Changing.{updates}
 use Rattle.sql_tables.proofs.Creating.{makes_table}
@@ -24,8 +27,8 @@ use Rattle.as2_exchange.specs.declared.outbox.OutEntry.{OutEntry}
 use Rattle.as2_records.specs.Standing.{IsCounted}
 use Rattle.as2_rows.specs.Rows.{in_row}
 use Rattle.as2_store.specs.Migrating.{beside_schema, AreShared, IsBeside, IsCopied, IsInboxBeside, IsMoved, IsNearly, StandsBut}
-use Rattle.as2_store.specs.Stands.{IsWhole, Stands, HasResent, AreTried, inbox_pieces, meta_row, numbers_of, origin_row, resent_row}
-use Rattle.as2_store.specs.Tables.{Way, Fresh, Migrated, Layout, number_of, VersionOne, VersionTwo, VersionThree, current_number, schema_of, store_schema, inbox2_made, inbox2_piece_made, origin_made, resent_made, meta_table, meta_tree, inbox_table, inbox_tree, first_inbox_table, first_inbox_tree, origin_tree}
+use Rattle.as2_store.specs.Stands.{IsWhole, Stands, HasEntries, HasResent, AreTried, inbox_pieces, meta_row, numbers_of, origin_row, resent_row}
+use Rattle.as2_store.specs.Tables.{Way, Fresh, Migrated, Layout, number_of, VersionOne, VersionTwo, VersionThree, current_number, schema_of, store_schema, inbox2_made, inbox2_piece_made, origin_made, resent_made, behind_meta, meta_table, meta_tree, inbox_table, inbox_tree, inbox_piece_table, origin_table, first_inbox_table, first_inbox_tree, origin_tree}
 use Rattle.as2_store.proofs.Copying.{copies, none_compared, puts_in_order}
 use Rattle.as2_store.proofs.ForeignKeys.{quiet}
 use Rattle.as2_store.proofs.InboxRow.{cast_url, cast_digest, cast_mic}
@@ -38,6 +41,12 @@ use Rattle.as2_store.proofs.WaitingRows.{cast_optional}
 
 -- ---- tables beside those of the first version
 
+-- one more leaves the entries
+entries_beside : (rest : List Table) (old new : Database) (s : State) → KeepsRows (meta_table ∷ (behind_meta VersionOne ++ rest)) old.trees new.trees
+    → HasEntries VersionOne old s → HasEntries VersionOne new s
+entries_beside rest old new s o has =
+    still_entries VersionOne VersionOne old new s o.1.0 o.1.1.0 o.1.1.1.0 o.1.1.1.1.0 o.1.1.1.1.1.0 o.1.1.1.1.1.1.0 has
+
 pub makes_inbox_beside : (a b c : Connected) (i j : ℕ) → Executes inbox2_text [] a b (Ok i) → Executes inbox2_piece_text [] b c (Ok j) → (s : State)
     → Stands VersionOne a.now s → IsInboxBeside c.now s
 makes_inbox_beside a b c i j one two s it =
@@ -49,8 +58,7 @@ makes_inbox_beside a b c i j one two s it =
     record {
       schema = m2.schema_is;
       meta = o2.0 ∙ o1.0 ∙ it.meta;
-      entries = still_entries VersionOne VersionOne b.now c.now s o2.1.0 o2.1.1.0 o2.1.1.1.0 o2.1.1.1.1.0 o2.1.1.1.1.1.0 o2.1.1.1.1.1.1.0
-          (still_entries VersionOne VersionOne a.now b.now s o1.1.0 o1.1.1.0 o1.1.1.1.0 o1.1.1.1.1.0 o1.1.1.1.1.1.0 o1.1.1.1.1.1.1.0 it.entries);
+      entries = entries_beside (inbox_table Migrated ∷ []) b.now c.now s o2 (entries_beside [] a.now b.now s o1 it.entries);
       no_inbox = o2.1.1.1.1.1.1.1.0 ∙ m1.empty;
       no_piece = m2.empty;
     }
@@ -65,8 +73,8 @@ makes_beside a b c i j one two s it =
     record {
       schema = m2.schema_is;
       meta = o2.0 ∙ o1.0 ∙ it.meta;
-      entries = still_entries VersionOne VersionOne b.now c.now s o2.1.0 o2.1.1.0 o2.1.1.1.0 o2.1.1.1.1.0 o2.1.1.1.1.1.0 o2.1.1.1.1.1.1.0
-          (still_entries VersionOne VersionOne a.now b.now s o1.1.0 o1.1.1.0 o1.1.1.1.0 o1.1.1.1.1.0 o1.1.1.1.1.1.0 o1.1.1.1.1.1.1.0 it.entries);
+      entries = entries_beside (inbox_table Migrated ∷ inbox_piece_table Migrated ∷ origin_table Migrated ∷ []) b.now c.now s o2
+          (entries_beside (inbox_table Migrated ∷ inbox_piece_table Migrated ∷ []) a.now b.now s o1 it.entries);
       no_inbox = o2.1.1.1.1.1.1.1.0 ∙ o1.1.1.1.1.1.1.1.0 ∙ it.no_inbox;
       no_piece = o2.1.1.1.1.1.1.1.1.0 ∙ o1.1.1.1.1.1.1.1.1.0 ∙ it.no_piece;
       no_origin = o2.1.1.1.1.1.1.1.1.1.0 ∙ m1.empty;

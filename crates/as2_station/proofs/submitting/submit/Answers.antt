@@ -1,4 +1,4 @@
-use Rattle.std.proofs.Common.{◌≡◌, ◌∙◌, None, ap, is_none, sym}
+use Rattle.std.proofs.Common.{◌≡◌, ◌∙◌, None, ap, is_none, refl, sym}
 use Rattle.as2_exchange.specs.Readings.{out_id}
 use Rattle.as2_exchange.specs.declared.answer.Answer.TheVariants.{Submitted}
 use Rattle.as2_station.specs.Heads.{submit_refusal}
@@ -27,7 +27,7 @@ returns-in_err-add_out-clause-taken g c =
     after_read _ _ _ _ _ (λ s. n ≡ s.next_out) _ _ _ _ _ (λ s known next. next.document) c.in_ok-number.ensures.numbers
     (passed_on _ _ _ _ _ _ _ _ c.from_residual-in_err-add_out.ensures.0 c.from_residual-in_err-add_out.ensures.1
     (unwritten _ _ _ _ _ _ _ _ (Submitted n)
-    (λ s t stands known is counter. submits c.args.agreements.now s t c.args.document.organization c.args.document.partner c.args.document.content c.args.moment n fine known (rw (c.new_document.ensures, c.in_ok-id.ensures.id) at is) counter.1)
+    (λ s t stands known is counter. submits c.args.agreements.now s t c.args.document.organization c.args.document.partner c.args.document.content c.args.moment n fine known (rw (c.new_document.ensures, c.in_ok-id.ensures) at is) counter.1)
     c.in_err-add_out.ensures.fault
     (λ s known full. none_left c.args.agreements.now s c.args.document.organization c.args.document.partner c.args.document.content c.args.moment n fine known (rw c.new_document.ensures at (c.in_err-add_out.ensures.full full))) c.in_err-add_out.ensures.added))
 
@@ -39,5 +39,5 @@ returns-clause-taken g c =
     sym c.refusal_of.ensures ∙ c.in_default.is in
     after_read _ _ _ _ _ (λ s. n ≡ s.next_out) _ _ _ _ _ (λ s known next. next.document) c.in_ok-number.ensures.numbers
     (written _ _ _ _ _ _ _ _ _
-    (λ s t stands known is counter. submits c.args.agreements.now s t c.args.document.organization c.args.document.partner c.args.document.content c.args.moment n fine known (rw (c.new_document.ensures, c.in_ok-id.ensures.id) at is) counter.1)
+    (λ s t stands known is counter. submits c.args.agreements.now s t c.args.document.organization c.args.document.partner c.args.document.content c.args.moment n fine known (rw (c.new_document.ensures, c.in_ok-id.ensures) at is) counter.1)
     c.in_ok-add_out.ensures.added)
