@@ -1,6 +1,7 @@
 //! The program's network and terminal: connections over TCP that are served, links to partners, the clock, and how far a long look has come.
 #![tactic(auto)]
 
+mod counts;
 mod links;
 mod network;
 mod progress;

@@ -6,6 +6,7 @@ ghost use Rattle.as2_http.specs.Sending.{AppendsPart};
 ghost use Rattle.as2_messages.specs.Answering.{is_answered};
 ghost use Rattle.as2_connections.specs.Linking.{AnswersInput, HasWaits, link_fault};
 
+use crate::counts::CallCounts;
 use crate::network::Stream;
 use as2_commands::Waits;
 use as2_exchange::{Job, TryAnswer};
@@ -85,22 +86,20 @@ fn exchange_counted<R: Read, W: Write, A: Ledger, B: Ledger, C: Ledger, D: Ledge
     job: &Job,
     reader: R,
     writer: W,
-    reads: Blank,
-    failed_reads: Blank,
-    writes: Blank,
-    failed_writes: Blank,
+    reads: CallCounts,
+    writes: CallCounts,
 ) -> ExchangeEnd<R, W>
-    requires reads { OpensLedger reads.name reads.parts A.name A.parts }
-    requires failed_reads { OpensLedger failed_reads.name failed_reads.parts B.name B.parts }
-    requires writes { OpensLedger writes.name writes.parts C.name C.parts }
-    requires failed_writes { OpensLedger failed_writes.name failed_writes.parts D.name D.parts }
+    requires reads { OpensLedger reads.calls.name reads.calls.parts A.name A.parts }
+    requires failed_reads { OpensLedger reads.failed.name reads.failed.parts B.name B.parts }
+    requires writes { OpensLedger writes.calls.name writes.calls.parts C.name C.parts }
+    requires failed_writes { OpensLedger writes.failed.name writes.failed.parts D.name D.parts }
     ensures written { AppendsPart (W.contents writer) (W.contents result.writer) job.now.bytes }
     ensures whole { IsTrue (is_answered result.got)
         → Appends (W.contents writer) (W.contents result.writer) job.now.bytes }
     ensures answer { (input : List ℕ) → R.remaining reader ≡ Some input → AnswersInput input result.got }
 {
-    let mut source: Counted<R, A, B> = Counted::new(reader, reads, failed_reads);
-    let mut sink: Counted<W, C, D> = Counted::new(writer, writes, failed_writes);
+    let mut source: Counted<R, A, B> = Counted::new(reader, reads.calls, reads.failed);
+    let mut sink: Counted<W, C, D> = Counted::new(writer, writes.calls, writes.failed);
     let got = exchange(alloc, job, &mut source, &mut sink);
     ExchangeEnd {
         got,
@@ -187,10 +186,14 @@ impl Links for PartnerLinks<'_> {
             job,
             LastError::new(reader),
             LastError::new(writer),
-            Blank::new(1),
-            Blank::new(1),
-            Blank::new(1),
-            Blank::new(1),
+            CallCounts {
+                calls: Blank::new(1),
+                failed: Blank::new(1),
+            },
+            CallCounts {
+                calls: Blank::new(1),
+                failed: Blank::new(1),
+            },
         );
         let last = exchanged.writer.last.or(exchanged.reader.last);
         self.fault = link_fault(last, self.waits);

@@ -6,6 +6,7 @@ ghost use Rattle.as2_http.specs.StreamReads.{RunsPosts};
 ghost use Rattle.as2_exchange.specs.State.{State};
 ghost use Rattle.as2_connections.specs.Inputs.{ServesInput};
 
+use crate::counts::CallCounts;
 use crate::links::PartnerLinks;
 use crate::served::{Replies, Requests};
 use crate::wall_clock::clock;
@@ -71,15 +72,13 @@ fn serve_counted<
     reader: R,
     writer: W,
     journal: &mut J,
-    reads: Blank,
-    failed_reads: Blank,
-    writes: Blank,
-    failed_writes: Blank,
+    reads: CallCounts,
+    writes: CallCounts,
 ) -> (Served, W)
-    requires reads { OpensLedger reads.name reads.parts A.name A.parts }
-    requires failed_reads { OpensLedger failed_reads.name failed_reads.parts B.name B.parts }
-    requires writes { OpensLedger writes.name writes.parts C.name C.parts }
-    requires failed_writes { OpensLedger failed_writes.name failed_writes.parts D.name D.parts }
+    requires reads { OpensLedger reads.calls.name reads.calls.parts A.name A.parts }
+    requires failed_reads { OpensLedger reads.failed.name reads.failed.parts B.name B.parts }
+    requires writes { OpensLedger writes.calls.name writes.calls.parts C.name C.parts }
+    requires failed_writes { OpensLedger writes.failed.name writes.failed.parts D.name D.parts }
     ensures clean { (K.shows station.new).IsClean → (K.shows station.old).IsClean }
     ensures serves { (K.shows station.new).IsClean → (s : State) → (K.shows station.old).Rests s
         → (input : List ℕ) → R.remaining reader ≡ Some input → (t : State) × (K.shows station.new).Rests t
@@ -88,8 +87,8 @@ fn serve_counted<
     ensures posts { (K.shows station.new).IsClean → (s : State) → (K.shows station.old).Rests s
         → (t : State) × (K.shows station.new).Rests t × RunsPosts agreements.now moment s t }
 {
-    let mut source: Counted<R, A, B> = Counted::new(reader, reads, failed_reads);
-    let mut sink: Counted<W, C, D> = Counted::new(writer, writes, failed_writes);
+    let mut source: Counted<R, A, B> = Counted::new(reader, reads.calls, reads.failed);
+    let mut sink: Counted<W, C, D> = Counted::new(writer, writes.calls, writes.failed);
     let end = serve_stream(
         alloc,
         agreements,
@@ -133,10 +132,14 @@ fn serve_connection<K: Records, J: Journal>(
         reader,
         writer,
         journal,
-        Blank::new(1),
-        Blank::new(1),
-        Blank::new(1),
-        Blank::new(1),
+        CallCounts {
+            calls: Blank::new(1),
+            failed: Blank::new(1),
+        },
+        CallCounts {
+            calls: Blank::new(1),
+            failed: Blank::new(1),
+        },
     );
     if end == Served::BadFraming {
         // the peer may still be sending, and is to read why it was refused

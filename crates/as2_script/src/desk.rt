@@ -50,7 +50,7 @@ fn joined(mut bytes: Vec<u8>, others: &[u8]) -> Vec<u8> {
 
 /// Counts of a stream that aren't opened yet: of its calls, and of those that failed.
 #[derive(Drop)]
-struct Counts {
+struct CallCounts {
     calls: Blank,
     failed: Blank,
 }
@@ -60,9 +60,9 @@ fn run_counted<S: OpenStores, A: Ledger, B: Ledger, C: Ledger, D: Ledger, E: Led
     alloc: Global,
     given: &Given<'_>,
     host: &mut Host<Files<'_>, S, Peers<'_>>,
-    reads: Counts,
-    writes: Counts,
-    says: Counts,
+    reads: CallCounts,
+    writes: CallCounts,
+    says: CallCounts,
 ) -> (Ended, (usize, usize))
     requires reads { OpensLedger reads.calls.name reads.calls.parts A.name A.parts }
     requires failed_reads { OpensLedger reads.failed.name reads.failed.parts B.name B.parts }
@@ -121,15 +121,15 @@ fn run_over<S: OpenStores>(
         alloc,
         given,
         host,
-        Counts {
+        CallCounts {
             calls: Blank::new(1),
             failed: Blank::new(1),
         },
-        Counts {
+        CallCounts {
             calls: Blank::new(1),
             failed: Blank::new(1),
         },
-        Counts {
+        CallCounts {
             calls: Blank::new(1),
             failed: Blank::new(1),
         },

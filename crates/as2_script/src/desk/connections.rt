@@ -3,7 +3,7 @@ ghost use Rattle.as2_exchange.specs.State.{State};
 ghost use Rattle.as2_http.specs.Devices.{OpensLedger};
 ghost use Rattle.as2_http.specs.StreamReads.{RunsPosts};
 
-use super::Counts;
+use super::CallCounts;
 use as2_agreement::Agreements;
 use as2_http::{Counted, Journal, Served, serve_stream};
 use as2_records::Records;
@@ -22,8 +22,8 @@ fn serve_counted<K: Records, J: Journal, A: Ledger, B: Ledger, C: Ledger, D: Led
     station: &mut Station<K>,
     bytes: &[u8],
     journal: &mut J,
-    reads: Counts,
-    writes: Counts,
+    reads: CallCounts,
+    writes: CallCounts,
 ) -> Served
     requires reads { OpensLedger reads.calls.name reads.calls.parts A.name A.parts }
     requires failed_reads { OpensLedger reads.failed.name reads.failed.parts B.name B.parts }
@@ -70,11 +70,11 @@ pub fn serve_text<K: Records, J: Journal>(
         station,
         bytes.as_slice(),
         journal,
-        Counts {
+        CallCounts {
             calls: Blank::new(1),
             failed: Blank::new(1),
         },
-        Counts {
+        CallCounts {
             calls: Blank::new(1),
             failed: Blank::new(1),
         },
