@@ -67,7 +67,7 @@ module _ {S : Type 0} (g : Ghosts S) (old : Held S) (last : Connected) (end h : 
 
 -- ---- why the row of `meta` can't be read
 
--- a query that failed in the transaction, over tables that are those of a store or say so
+-- a query that failed in the transaction: for a reason from outside, or the connection was open before
 pub fails_by : {S : Type 0} (g : Ghosts S) (old : Held S) (mid : Connected) (e : Error)
     → FailsToQuery meta_read_text [] (state g (record old { in_transaction = true })) mid e
     ⊎ IsTooLate meta_read_text [] (state g (record old { in_transaction = true })) mid e

@@ -107,9 +107,10 @@ lists fits old new a opened is_open survives each = record {
   crash = survives;
 }
 
-pub lists_none : {A : Type 0} (fits : State → A → Type 0) (old new : Connected) (f : StoreFault) → Survives old new (CommitsTables Some old)
+-- a listing that fails, for any reason
+pub listing_fails : {A : Type 0} (fits : State → A → Type 0) (old new : Connected) (f : StoreFault) → Survives old new (CommitsTables Some old)
     → (HasCleanDisk new → (s : State) → Rests old s → Rests new s) → ReadsTables {A = A} {E = StoreFault} fits old new (Err f)
-lists_none fits old new f survives same = record {
+listing_fails fits old new f survives same = record {
   clean = λ clean. omega (arith, survives.clean, clean);
   was_open = λ clean. tt;
   is_open = λ clean. tt;
@@ -119,9 +120,9 @@ lists_none fits old new f survives same = record {
 }
 
 -- a step that leaves nothing more to a crash
-pub still_nothing : (old mid new : Connected) → Survives old mid (CommitsTables Some old) → Survives mid new (λ _. ⊥)
+pub crash_then : (old mid new : Connected) → Survives old mid (CommitsTables Some old) → Survives mid new (λ _. ⊥)
     → Survives old new (CommitsTables Some old)
-still_nothing old mid new one two =
+crash_then old mid new one two =
     survives_then old mid new (CommitsTables Some old) (λ _. ⊥) (CommitsTables Some old) (λ _ db is. is) (λ _ db none. absurd none) one two
 
 -- ---- the ends of a turn of the listing
@@ -136,18 +137,18 @@ module _ {S X Y A : Type 0} (g : Ghosts S) (sql : List ℕ) (params : Row) (show
       → ReadsTables {A = A} {E = StoreFault} fits (state g old) (state g h) (Err f)
   stops f e failed =
       subst (λ (h : Held S). ReadsTables {A = A} {E = StoreFault} fits (state g old) (state g h) (Err f)) same
-      (lists_none fits (state g old) (state g now) f (still_nothing (state g old) (state g mid) (state g now) before late) (λ clean s r.
+      (listing_fails fits (state g old) (state g now) f (crash_then (state g old) (state g mid) (state g now) before late) (λ clean s r.
       let it = so_far (omega (arith, late.clean, clean)) s r in
       rests_still (state g mid) (state g now) s (rests_still (state g old) (state g mid) s r (inl it.same))
       (fails_to_query sql params (state g mid) (state g now) e (failed clean sql params it.given it.has))))
 
-  -- what the row shows can't be listed
+  -- what the row shows can't be read, or can't be listed
   pub breaks_off : (r : Result A StoreFault) → IsErr r → (HasCleanDisk (state g now) → IsUnchanged (state g mid) (state g now))
       → ReadsTables {A = A} {E = StoreFault} fits (state g old) (state g h) r
   breaks_off (Ok a) err stays = absurd cc
   breaks_off (Err f) err stays =
       subst (λ (h : Held S). ReadsTables {A = A} {E = StoreFault} fits (state g old) (state g h) (Err f)) same
-      (lists_none fits (state g old) (state g now) f (still_nothing (state g old) (state g mid) (state g now) before late) (λ clean s r.
+      (listing_fails fits (state g old) (state g now) f (crash_then (state g old) (state g mid) (state g now) before late) (λ clean s r.
       let it = so_far (omega (arith, late.clean, clean)) s r in
       rests_still (state g mid) (state g now) s (rests_still (state g old) (state g mid) s r (inl it.same)) (inl (stays clean))))
 
@@ -160,7 +161,7 @@ module _ {S X Y A : Type 0} (g : Ghosts S) (sql : List ℕ) (params : Row) (show
   gives_all a opened stays ended fit =
       subst (λ (h : Held S). ReadsTables {A = A} {E = StoreFault} fits (state g old) (state g h) (Ok a)) same
       (lists fits (state g old) (state g now) a opened (λ clean. (stays clean).0.is_open)
-      (still_nothing (state g old) (state g mid) (state g now) before late) (λ clean s r.
+      (crash_then (state g old) (state g mid) (state g now) before late) (λ clean s r.
       let it = so_far (omega (arith, late.clean, clean)) s r in
       let stood = rests_still (state g old) (state g mid) s r (inl it.same) in (
         rests_still (state g mid) (state g now) s stood (inl (stays clean)),

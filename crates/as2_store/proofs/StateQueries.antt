@@ -60,10 +60,10 @@ covered (Some S) d = (covers d.detail).3
 covered (Some W) d = (covers d.detail).4
 covered (Some E) d = (covers d.detail).5
 
-pub kept_all : (wanted : Option DetailClass) (ds : List OutEntry)
+pub none_lost : (wanted : Option DetailClass) (ds : List OutEntry)
     → filter (is_in wanted) (filter (λ (d : OutEntry). is_between wanted d.detail) ds) ≡ filter (is_in wanted) ds
-kept_all wanted [] = refl
-kept_all wanted (d ∷ ds) = go (is_between wanted d.detail) (is_in wanted d) refl (covered wanted d) (kept_all wanted ds)
+none_lost wanted [] = refl
+none_lost wanted (d ∷ ds) = go (is_between wanted d.detail) (is_in wanted d) refl (covered wanted d) (none_lost wanted ds)
   where
     go : (between of : Bool) → is_in wanted d ≡ of → (between && of) ≡ of
         → filter (is_in wanted) (filter (λ (x : OutEntry). is_between wanted x.detail) ds) ≡ filter (is_in wanted) ds

@@ -1,6 +1,7 @@
 -- `add`, exit by exit: committed, the commit failed, raising the counter failed, it raised no row (the number isn't the next). Where
 -- `put_received` fails the tactic finds the answer. What the two statements make of the tables is `adds` (AddedTables.antt); the ends of a call are
--- lemmas of Committing.antt. One statement more: an `inside_then` in `inside`, a step in `stands_received`, and one exit more.
+-- lemmas of Committing.antt. One statement more goes into `put_received` (`entered` of AddedTables.antt says what that makes of the rows); one in
+-- `add` itself is an `inside_then` in `inside`, a step in `stands_received`, a row in `added` and `adds`, and one exit more.
 use Rattle.std.proofs.Common.{true, rules, refl, Err}
 use Rattle.sqlite.specs.Held.{state}
 use Rattle.sqlite.specs.State.{HasCleanDisk}

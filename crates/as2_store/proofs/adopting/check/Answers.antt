@@ -1,7 +1,8 @@
 -- `check`, exit by exit: the query failed (in-Err), there is no table (is_bare), the row says no (in-Some), committed (in_default-commit), the
 -- commit failed (the last two). Each refusal gives the connection back (`hands_back`) with its reason (`unread_by`, `bare_by`, `said_by`,
--- `comes`); the one commit `adopts`: all of HandedBack.antt. Another query: `meta_read_text` in Statements.antt. Another refusal: a pair of
--- `given_back` and `reason` here, and its reason in HandedBack.antt.
+-- `comes`); the one commit `adopts`. These are of HandedBack.antt, but `commits` of Committing.antt and `query_keeps` of Querying.antt.
+-- Another query, or another column of `meta`: `meta_read_text` in Statements.antt, `meta_..` in Texts.antt, `meta_cells` in MetaRow.antt.
+-- Another refusal: a pair of `given_back` and `reason` here, and its reason in HandedBack.antt.
 use Rattle.std.proofs.Common.{true, rules, ◌≡◌, ◌∙◌, ℕ, [], sym, ap, refl, subst, arith, Some, IsTrue}
 use Rattle.sqlite.specs.Held.{state}
 use Rattle.sqlite.specs.Schema.{Schema}
@@ -38,7 +39,7 @@ module _ (g : Over) (c : After-commit g) where
   stays clean = shown_stays meta_read_text [] (state g.S.Store (record c.args.conn.now { in_transaction = true }))
       (state g.S.Store c.query_all.new.self.conn.now) c.in-Ok.rows.items refl (shown clean)
 
-  -- and the state is left
+  -- and the tables stand for the same state (`Some`: the next state is the old one)
   keeps : HasCleanDisk (state g.S.Store c.query_all.new.self.conn.now)
       → FollowsEach g.S.Store c.args.conn.now (state g.S.Store c.query_all.new.self.conn.now) Some
   keeps = query_keeps g.S.Store c.args.conn.now (state g.S.Store c.query_all.new.self.conn.now) meta_read_text [] c.in-Ok.rows.items

@@ -1,5 +1,7 @@
 -- `documents_between`, exit by exit: the query failed, its next row can't be given, there is none, its row can't be read, or can't be listed. As
 -- in `entries`, the loop's turn begins at `mid` and is at `now` behind its row; the ends of a turn are lemmas of ListedRows.antt.
+-- The query takes rows by their codes, which lie between two (`lists_between`), and `list_if` filters again: `none_lost` says that so none that
+-- is wanted is left out. The exit behind the loop, which no listing reaches, the tactic answers.
 use Rattle.std.proofs.Common.{rules, List, Option, ◌≡◌, ◌∙◌, map, filter, ap, Some, None, Ok, refl, sym, subst, arith}
 use Rattle.sqlite.specs.Given.{Advances, row_if}
 use Rattle.sqlite.specs.Held.{state}
@@ -11,9 +13,9 @@ use Rattle.as2_exchange.specs.declared.outbox.OutEntry.{OutEntry}
 use Rattle.as2_mdn.specs.declared.detail.DetailClass.{DetailClass}
 use Rattle.as2_records.specs.Summaries.{out_summary}
 use Rattle.as2_records.specs.declared.summaries.OutRow.{OutRow}
-use Rattle.as2_store.proofs.ListedRows.{breaks_off, gives_all, leaves_nothing, lists_none, none_listed, one_more, rests_still, still_nothing, stops}
+use Rattle.as2_store.proofs.ListedRows.{breaks_off, gives_all, leaves_nothing, listing_fails, none_listed, one_more, rests_still, crash_then, stops}
 use Rattle.as2_store.proofs.Querying.{told_ok}
-use Rattle.as2_store.proofs.StateQueries.{kept_all, lists_between, one_more_document}
+use Rattle.as2_store.proofs.StateQueries.{none_lost, lists_between, one_more_document}
 use Rattle.as2_store.proofs.Statements.{out_by_details_text}
 use Rattle.as2_store.proofs.Texts.{out_by_details_plain}
 use Rattle.as2_store.proofs.listing.documents_between.Goals as goal
@@ -27,7 +29,7 @@ returns-in-Err-clause-documents g c =
     let old = state g.S.Store c.args.conn.now in
     let new = state g.S.Store c.query.follows.lender-at-none in
     let refused = rw c.in-Err.is at c.query.follows.holds-at-none in
-    lists_none _ old new _ (leaves_nothing out_by_details_text (bound c.args.codes.now) old new out_by_details_plain c.requires.open refused.survives)
+    listing_fails _ old new _ (leaves_nothing out_by_details_text (bound c.args.codes.now) old new out_by_details_plain c.requires.open refused.survives)
     (λ clean s r. rests_still old new s r (fails_to_query out_by_details_text (bound c.args.codes.now) old new c.in-Err.error (refused.err clean)))
 
 pub rows-init : goal.rows-init
@@ -62,7 +64,7 @@ returns-in_default-clause-documents g c =
     (λ clean. subst (Advances g.S.Store mid now) none (c.in-Ok-advance.ensures.ok clean))
     (λ given s stood all read.
     read _ (lists_between c.args.wanted (state g.S.Store mid) (state g.S.Store now) given (rw c.requires.codes at all) s stood)
-    ∙ ap (map out_summary) (kept_all c.args.wanted s.outbox))
+    ∙ ap (map out_summary) (none_lost c.args.wanted s.outbox))
 
 pub returns-in_err-document-clause-documents : goal.returns-in_err-document-clause-documents
 returns-in_err-document-clause-documents g c =
@@ -87,7 +89,7 @@ rows-preserved g c =
     let read = rw told at c.read_out_row.ensures.read in (
       c.advance.ensures.same_reference ∙ c.rows.invariant.0,
       c.advance.ensures.mode c.rows.invariant.1,
-      still_nothing old mid (state g.S.Store now) c.rows.invariant.2 c.advance.ensures.survives,
+      crash_then old mid (state g.S.Store now) c.rows.invariant.2 c.advance.ensures.survives,
       λ clean s r.
           let it = c.rows.invariant.3 (omega (arith, c.advance.ensures.survives.clean, clean)) s r in
           one_more g.S.Store out_by_details_text (bound c.args.codes.now) out_shown

@@ -12,6 +12,7 @@ use Rattle.as2_store.proofs.ListedRows.{HasListed}
 use Rattle.as2_store.proofs.Statements.{out_by_details_text}
 use Rattle.as2_store.proofs.listing.documents_between.Given as goal
 
+-- The connection is the one that was lent; no transaction is open; a crash leaves what it would have left before; and what is listed so far.
 abbrev pub invariant-rows : goal.invariant-rows
 invariant-rows g l =
     let old = state g.S.Store l.fn.conn in

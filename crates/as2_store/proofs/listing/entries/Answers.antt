@@ -1,5 +1,6 @@
 -- `entries`, exit by exit: the query failed, its next row can't be given, there is none, its row can't be read, or can't be listed. The loop's
 -- turn begins at `mid` and is at `now` behind its row; what is listed so far is `HasListed` (ListedRows.antt), where the ends of a turn are lemmas.
+-- The exit behind the loop, which no listing reaches, the tactic answers.
 use Rattle.std.proofs.Common.{rules, ◌≡◌, ◌∙◌, ◌++◌, [], ◌∷◌, map, Some, None, Ok, Err, refl, sym, subst, arith}
 use Rattle.sqlite.specs.Given.{Advances, row_if}
 use Rattle.sqlite.specs.Held.{state}
@@ -8,7 +9,7 @@ use Rattle.as2_rows.specs.Rows.{in_shown}
 use Rattle.as2_exchange.specs.declared.fault.StoreFault.TheVariants.{Memory}
 use Rattle.as2_records.specs.Summaries.{in_summary}
 use Rattle.as2_store.proofs.InboxQueries.{lists_all, one_more_entry}
-use Rattle.as2_store.proofs.ListedRows.{breaks_off, gives_all, leaves_nothing, lists_none, none_listed, one_more, rests_still, still_nothing, stops}
+use Rattle.as2_store.proofs.ListedRows.{breaks_off, gives_all, leaves_nothing, listing_fails, none_listed, one_more, rests_still, crash_then, stops}
 use Rattle.as2_store.proofs.Querying.{told_ok}
 use Rattle.as2_store.proofs.Statements.{in_all_text}
 use Rattle.as2_store.proofs.Texts.{in_all_plain}
@@ -19,7 +20,7 @@ returns-in-Err-clause-entries g c =
     let old = state g.S.Store c.args.conn.now in
     let new = state g.S.Store c.query.follows.lender-at-none in
     let refused = rw c.in-Err.is at c.query.follows.holds-at-none in
-    lists_none _ old new _ (leaves_nothing in_all_text [] old new in_all_plain c.requires.open refused.survives)
+    listing_fails _ old new _ (leaves_nothing in_all_text [] old new in_all_plain c.requires.open refused.survives)
     (λ clean s r. rests_still old new s r (fails_to_query in_all_text [] old new c.in-Err.error (refused.err clean)))
 
 pub rows-init : goal.rows-init
@@ -77,7 +78,7 @@ rows-preserved g c =
     let pushed : c.push.new.self.items ≡ c.rows.entries.items ++ c.in_ok-entry.entry ∷ [] = search rules in (
       c.advance.ensures.same_reference ∙ c.rows.invariant.0,
       c.advance.ensures.mode c.rows.invariant.1,
-      still_nothing old mid (state g.S.Store now) c.rows.invariant.2 c.advance.ensures.survives,
+      crash_then old mid (state g.S.Store now) c.rows.invariant.2 c.advance.ensures.survives,
       λ clean s r.
           let it = c.rows.invariant.3 (omega (arith, c.advance.ensures.survives.clean, clean)) s r in
           rw pushed (one_more g.S.Store in_all_text [] in_shown (map in_summary) c.args.conn.now c.rows.rows.conn.now now _ it c.in-Some.row.now _
