@@ -135,18 +135,11 @@ impl FileSystem<'_> {
         self.remove(&place.log);
     }
 
-    /// What came of opening the store of that place. Where that failed, a log that it began and wrote nothing into is taken away.
-    pub(crate) fn leave_no_log<T>(
-        &self,
-        place: &Place,
-        outcome: Result<T, OpenFault>,
-    ) -> Result<T, OpenFault>
-        ensures { result ≡ outcome }
-    {
-        if outcome.is_err() && !place.had_log {
+    /// The store of that place couldn't be opened: a log that was begun meanwhile, and holds nothing, is taken away.
+    pub(crate) fn leave_no_log(&self, place: &Place) {
+        if !place.had_log {
             self.remove_empty_log(place);
         }
-        outcome
     }
 
     /// Takes away the log of the store of that place if it is empty. It is looked at while the store's files are locked, since no other

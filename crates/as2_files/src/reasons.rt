@@ -1,6 +1,6 @@
 //! Why the files of a store can't be opened, where the library that opens them says no more than that it couldn't: the file system is
 //! asked.
-ghost use Rattle.std.specs.Prelude.{◌≡◌, ◌⊎◌, ◌≢◌, Err};
+ghost use Rattle.std.specs.Prelude.{◌≡◌, ◌⊎◌, ◌≢◌};
 ghost use Rattle.as2_exchange.specs.declared.fault.StoreFault.TheVariants.{Refused};
 ghost use Rattle.as2_host.specs.declared.stores.OpenFault.TheVariants.{Path, Store};
 ghost use Rattle.as2_host.specs.declared.stores.PathFault.{PathFault as TheReason};
@@ -69,23 +69,29 @@ impl FileSystem<'_> {
         self.making_fault(place.log())
     }
 
-    /// What came of opening the store of that place. Where the library refused it, and the file system has a reason, that is told.
-    pub(crate) fn with_reason<T>(
-        &self,
-        place: &Place,
-        outcome: Result<T, OpenFault>,
-    ) -> Result<T, OpenFault>
-        ensures same { outcome ≢ Err (Store Refused) → result ≡ outcome }
-        ensures reason { outcome ≡ Err (Store Refused) → (result ≡ outcome)
-            ⊎ ((reason : TheReason) × (result ≡ Err (Path reason))) }
+    /// The fault with the reason that the file system has, where the library said no more than that it refused.
+    fn with_reason(&self, place: &Place, fault: OpenFault) -> OpenFault
+        ensures same { fault ≢ Store Refused → result ≡ fault }
+        ensures reason { fault ≡ Store Refused → (result ≡ fault) ⊎ ((reason : TheReason) × (result ≡ Path reason)) }
     {
-        match outcome {
-            Err(OpenFault::Store(StoreFault::Refused)) => match self.reason(place) {
-                Some(reason) => Err(OpenFault::Path(reason)),
-                None => Err(OpenFault::Store(StoreFault::Refused)),
+        match fault {
+            OpenFault::Store(StoreFault::Refused) => match self.reason(place) {
+                Some(reason) => OpenFault::Path(reason),
+                None => fault,
             },
-            outcome => outcome,
+            _ => fault,
         }
+    }
+
+    /// Why the store of that place couldn't be opened: the library's fault, or where it refused, the reason that the file system has. A log
+    /// that was begun meanwhile is left only where it holds something.
+    pub(crate) fn opening_failed(&self, place: &Place, fault: OpenFault) -> OpenFault
+        ensures same { fault ≢ Store Refused → result ≡ fault }
+        ensures reason { fault ≡ Store Refused → (result ≡ fault) ⊎ ((reason : TheReason) × (result ≡ Path reason)) }
+    {
+        let told = self.with_reason(place, fault);
+        self.leave_no_log(place);
+        told
     }
 }
 

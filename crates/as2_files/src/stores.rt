@@ -91,9 +91,10 @@ impl<R: Records + Drop, K: KeepFiles<R> + Drop> OpenStores for StoreFiles<'_, R,
         let Some(keeper) = self.keeper.take() else {
             return Err(OpenFault::Held);
         };
-        let opened = keeper.open_records(self.files.rt, place.name());
-        let opened = self.files.with_reason(&place, opened);
-        let records = self.files.leave_no_log(&place, opened)?;
+        let records = match keeper.open_records(self.files.rt, place.name()) {
+            Ok(records) => records,
+            Err(fault) => return Err(self.files.opening_failed(&place, fault)),
+        };
         self.place = Some(place);
         self.has_opened = true;
         Ok(records)
@@ -130,9 +131,10 @@ impl<R: Records + Drop, K: KeepFiles<R> + Drop> OpenStores for StoreFiles<'_, R,
         let Some(keeper) = self.keeper.take() else {
             return Err(OpenFault::Held);
         };
-        let moved = keeper.migrate_records(self.files.rt, place.name());
-        let moved = self.files.with_reason(&place, moved);
-        let Moved { end, migration } = self.files.leave_no_log(&place, moved)?;
+        let Moved { end, migration } = match keeper.migrate_records(self.files.rt, place.name()) {
+            Ok(moved) => moved,
+            Err(fault) => return Err(self.files.opening_failed(&place, fault)),
+        };
         if let End::Closed(files) = &end {
             self.files.remove_log(&place, files);
         }

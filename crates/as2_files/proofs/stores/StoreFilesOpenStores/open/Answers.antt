@@ -8,7 +8,7 @@ use Rattle.as2_files.proofs.stores.StoreFilesOpenStores.open.Goals as goal
 -- it wasn't closed, so what is kept is what its files hold as they are opened, which are those of the path
 pub returns-clause-found : goal.returns-clause-found
 returns-clause-found g c = λ clean.
-    let found = (rw (sym c.in_ok-records.ensures) at c.open_records-opened.ensures.found) clean in
+    let found = (rw c.in-Ok.is at c.open_records.ensures.found) clean in
     let at = file_name c.args.path.now in (
       found.0,
       λ s kept. found.1 s (subst (λ (name : List ℕ). HoldsState (g.K.KeepFiles.image name) s) (sym (c.name.ensures ∙ c.in_ok-place.ensures))
