@@ -1,5 +1,5 @@
 -- How the end of a stream is told to a shell: by the exit status, and by a name.
-use Rattle.std.specs.Prelude.{ℕ, List, codes}
+use Rattle.std.specs.Prelude.{◌≡◌, ◌⊎◌, ℕ, List, codes}
 use Rattle.as2_http.specs.declared.stream.Served.{Served}
 use Rattle.as2_http.specs.declared.stream.Served.TheVariants as end
 
@@ -15,6 +15,10 @@ status_faulty = 2
 
 abbrev pub status_failed : ℕ
 status_failed = 3
+
+-- one of them
+abbrev pub IsExitStatus : ℕ → Type 0
+IsExitStatus status = (status ≡ status_done) ⊎ ((status ≡ status_refused) ⊎ ((status ≡ status_faulty) ⊎ (status ≡ status_failed)))
 
 -- only an end in good order is no refusal
 abbrev pub exit_status : Served → ℕ

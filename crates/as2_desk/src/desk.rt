@@ -11,7 +11,7 @@ ghost use Rattle.as2_desk.specs.Helping.{Helps, SaysFaulty};
 ghost use Rattle.as2_desk.specs.Observed.{errors_of, filing_of, input_of, console_outcome, output_of, stored_of};
 ghost use Rattle.as2_desk.specs.Runs.{WordsAskFor, DoesTask, IsSending, IsServing, Runs};
 ghost use Rattle.as2_desk.specs.Stops.{StopsAtFault};
-ghost use Rattle.as2_desk.specs.Statuses.{status_done, status_failed, status_faulty, status_refused};
+ghost use Rattle.as2_desk.specs.Statuses.{IsExitStatus, status_done, status_failed, status_faulty, status_refused};
 ghost use Rattle.as2_desk.specs.Stores.{Leaves};
 ghost use Rattle.as2_desk.specs.Written.{written_of};
 ghost use Rattle.as2_commands.specs.declared.tasks.Task.{Task as TheTask};
@@ -57,8 +57,7 @@ pub fn run<
     host: &mut Host<F, O, N>,
     console: &mut Console<R, W, H, E>,
 ) -> Ran
-    ensures status { (result.status ≡ status_done)
-        ⊎ ((result.status ≡ status_refused) ⊎ ((result.status ≡ status_faulty) ⊎ (result.status ≡ status_failed))) }
+    ensures status { IsExitStatus result.status }
     // Words that ask for something are no faulty command line.
     ensures given { (path store : List ℕ) (task : TheTask) → Gives (texts words.entry.now) clock path store task
         → result.status ≢ status_faulty }

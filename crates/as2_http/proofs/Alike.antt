@@ -250,12 +250,15 @@ one_end done rest BadFraming Memory e f = absurd f
 one_end done rest BadFraming TooLong e f = absurd f
 
 pub serves_in_one_way : ServesInOneWay
-serves_in_one_way A moment s t u input unread later before after base now i j k l end other one two sound ok =
-    at_judged end _ (λ is. at_judged other _ (λ was.
-    let e = ends_so A moment one.done one.mid t one.replies one.rest unread before after end is one.ends in
-    let f = ends_so A moment two.done two.mid u two.replies two.rest later base now other was two.ends in
+serves_in_one_way A moment s input first second sound ok =
+    let one = first.serves in
+    let two = second.serves in
+    at_judged first.end _ (λ is. at_judged second.end _ (λ was.
+    let e = ends_so A moment one.done one.mid first.left one.replies one.rest first.unread first.before first.after first.end is one.ends in
+    let f = ends_so A moment two.done two.mid second.left two.replies two.rest second.unread second.before second.after second.end was two.ends in
     let same = alike A moment s one.mid two.mid input one.replies two.replies one.rest two.rest one.done two.done one.all two.all
-    (stops_so one.done one.rest end e.1) (stops_so two.done two.rest other f.1) sound ok in
-    let there : EndsSo one.done one.rest other =
-    subst (λ (d : List RequestAndResponse). EndsSo d one.rest other) (sym same.0) (subst (λ (r : List ℕ). EndsSo two.done r other) (sym same.3) f.1) in
-    (same.0, same.2, same.3, one_end one.done one.rest end other e.1 there, e.0 ∙ same.1 ∙ sym f.0)))
+    (stops_so one.done one.rest first.end e.1) (stops_so two.done two.rest second.end f.1) sound ok in
+    let there : EndsSo one.done one.rest second.end =
+    subst (λ (d : List RequestAndResponse). EndsSo d one.rest second.end) (sym same.0)
+    (subst (λ (r : List ℕ). EndsSo two.done r second.end) (sym same.3) f.1) in
+    (same.0, same.2, same.3, one_end one.done one.rest first.end second.end e.1 there, e.0 ∙ same.1 ∙ sym f.0)))

@@ -32,15 +32,23 @@ AtJudged WriteFault P = ⊤
 AtJudged Memory P = ⊤
 AtJudged TooLong P = ⊤
 
+-- an input that was served from that state: how it was read, what was written and noted, how it ended, and what is left
+pub record ServedInput (A : AgreedValues) (moment : ℕ) (s : State) (input : List ℕ) : Type 0 where
+  pub unread : Option (List ℕ)
+  pub before : SinkAndJournal
+  pub after : SinkAndJournal
+  pub calls : ℕ
+  pub later : ℕ
+  pub end : Served
+  pub left : State
+  pub serves : Serves A moment s left input unread before after calls later end
+
 -- the same requests got the same, by the same replies, and the same follows them
-abbrev pub ServesAlike : (A : AgreedValues) (moment : ℕ) (s t u : State) (input : List ℕ) (unread later : Option (List ℕ)) (before after base now : SinkAndJournal) (i j k l : ℕ) (end other : Served)
-    → Serves A moment s t input unread before after i j end → Serves A moment s u input later base now k l other → Type 0
-ServesAlike A moment s t u input unread later before after base now i j k l end other one two =
-    (one.done ≡ two.done) × (one.replies ≡ two.replies) × (one.rest ≡ two.rest) × (end ≡ other) × (t ≡ u)
+abbrev pub ServesAlike : {A : AgreedValues} {moment : ℕ} {s : State} {input : List ℕ} (one two : ServedInput A moment s input) → Type 0
+ServesAlike one two =
+    (one.serves.done ≡ two.serves.done) × (one.serves.replies ≡ two.serves.replies) × (one.serves.rest ≡ two.serves.rest) × (one.end ≡ two.end) × (one.left ≡ two.left)
 
 -- In one state an input is served in one way, where nothing failed, and the store neither.
 abbrev pub ServesInOneWay : Type 0
-ServesInOneWay = (A : AgreedValues) (moment : ℕ) (s t u : State) (input : List ℕ) (unread later : Option (List ℕ)) (before after base now : SinkAndJournal) (i j k l : ℕ) (end other : Served)
-    → (one : Serves A moment s t input unread before after i j end) → (two : Serves A moment s u input later base now k l other)
-    → AreSound one.done → AreSound two.done
-    → AtJudged end (AtJudged other (ServesAlike A moment s t u input unread later before after base now i j k l end other one two))
+ServesInOneWay = (A : AgreedValues) (moment : ℕ) (s : State) (input : List ℕ) (one two : ServedInput A moment s input)
+    → AreSound one.serves.done → AreSound two.serves.done → AtJudged one.end (AtJudged two.end (ServesAlike one two))
