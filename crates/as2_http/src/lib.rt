@@ -14,6 +14,6 @@ pub use device::{Count, Counted, DeviceFault, Sink, Source};
 pub use exchanging::exchange;
 pub use journal::{Journal, Unnoted};
 pub use laws::one_stream;
-pub use response::Response;
+pub use response::{Response, respond};
 pub use sending::push_all;
 pub use stream::{Served, serve_stream};
