@@ -37,7 +37,7 @@ use Rattle.as2_http.proofs.Streaming.{answers_join, go_on_join}
 
 -- ---- a run of the machine
 
-events_join : (moment : ℕ) (one two : List RequestAndResponse) → stream_events moment (one ++ two) ≡ stream_events moment one ++ stream_events moment two
+pub events_join : (moment : ℕ) (one two : List RequestAndResponse) → stream_events moment (one ++ two) ≡ stream_events moment one ++ stream_events moment two
 events_join moment [] two = refl
 events_join moment (x ∷ one) two =
     let first = event_by x.0.method x.0.target moment x in
@@ -45,7 +45,7 @@ events_join moment (x ∷ one) two =
 
 module _ (A : AgreedValues) (moment : ℕ) where
   -- what is said to a request, and then more events
-  event_then : (s mid t : State) (r : Request) (x : Response) (m : Method) (at : Target) (more : Trace) → RespondsTo A moment m at s r x Unsaid mid
+  pub event_then : (s mid t : State) (r : Request) (x : Response) (m : Method) (at : Target) (more : Trace) → RespondsTo A moment m at s r x Unsaid mid
       → Run A mid more t → Run A s (event_by m at moment (r, x) ++ more) t
   event_then s mid t r (response.Answered a) method.Post target.Station more p run = (mid, p.0, run)
   event_then s mid t r (response.Failed f) method.Post target.Station more p run = (p.0, subst (λ (x : State). Run A x more t) p.1 run)
