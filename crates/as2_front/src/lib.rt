@@ -1,0 +1,6 @@
+//! The station as what answers the requests of many connections.
+#![tactic(auto)]
+
+mod desk;
+
+pub use desk::StationDesk;

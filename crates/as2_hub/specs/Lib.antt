@@ -1,0 +1,10 @@
+pub mod Calls
+pub mod Talks
+pub mod Happenings
+pub mod Conduct
+pub mod Places
+pub mod Bounded
+pub mod Turns
+pub mod Promises
+pub mod Rounds
+pub mod Inputs
