@@ -41,8 +41,8 @@ module _ (A : AgreedValues) (moment : ℕ) where
 -- the station answers at its moment, over its agreements, and at once; so that no round is lost
 abbrev pub conduct_by : {M : Medium} {K : Type 0} → (K → Standing M) → Conduct (StationDesk K)
 conduct_by {M} {K} shows = record {
-  Kept = K;
-  kept = λ d. d.station;
+  Kept = StationDesk K;
+  kept = λ d. d;
   answers = λ d asked text stays e. (e.agreements ≡ d.agreements) × (e.moment ≡ d.moment)
       × AnswersAsked d.agreements.now d.moment (shows d.station) (shows e.station) asked text stays;
   settles = λ d e. e ≡ d;

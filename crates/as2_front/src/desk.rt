@@ -1,5 +1,6 @@
 //! The station as a desk: it answers the requests of many connections, one after the other.
-ghost use Rattle.as2_front.specs.Answers.{conduct_by};
+ghost use Rattle.std.specs.Prelude.{◌≡◌};
+ghost use Rattle.as2_front.specs.Answers.{GivesReply, conduct_by};
 
 use as2_agreement::Agreements;
 use as2_exchange::HttpAnswer;
@@ -27,7 +28,12 @@ impl<'a, K: Records> StationDesk<'a, K> {
         agreements: &'a Agreements,
         moment: Moment,
         station: Station<K>,
-    ) -> StationDesk<'a, K> {
+    ) -> StationDesk<'a, K>
+        ensures alloc { result.alloc ≡ alloc }
+        ensures agreements { result.agreements ≡ agreements }
+        ensures moment { result.moment ≡ moment }
+        ensures station { result.station ≡ station }
+    {
         StationDesk {
             alloc,
             agreements,
@@ -37,17 +43,23 @@ impl<'a, K: Records> StationDesk<'a, K> {
     }
 
     /// From now on it is this moment.
-    pub fn set_moment(&mut self, moment: Moment) {
+    pub fn set_moment(&mut self, moment: Moment)
+        ensures { self.new ≡ record self.old { moment = moment } }
+    {
         self.moment = moment;
     }
 
     /// Gives the station back.
-    pub fn into_station(self) -> Station<K> {
+    pub fn into_station(self) -> Station<K>
+        ensures { result ≡ self.station }
+    {
         self.station
     }
 
     /// The reply to what a connection begins with. Where memory for it isn't there, it is empty and the connection ends.
-    fn reply(&self, form: Form, answer: &HttpAnswer, stays: bool) -> Reply {
+    fn reply(&self, form: Form, answer: &HttpAnswer, stays: bool) -> Reply
+        ensures { GivesReply self.now.moment form answer.now stays result.text.items result.stays }
+    {
         match write_reply(self.alloc, self.moment, form, answer) {
             Ok(text) => Reply { text, stays },
             Err(_) => Reply {

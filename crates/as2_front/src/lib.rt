@@ -2,5 +2,7 @@
 #![tactic(auto)]
 
 mod desk;
+mod playing;
 
 pub use desk::StationDesk;
+pub use playing::play;
