@@ -1,5 +1,5 @@
 -- How the station answers, as a desk of many connections.
-use Rattle.std.specs.Prelude.{◌≡◌, ◌⊎◌, ℕ, not, Bool, true, false, List, []}
+use Rattle.std.specs.Prelude.{◌≡◌, ◌⊎◌, ℕ, not, Bool, true, false, List, [], ⊤}
 use Rattle.as2_agreement.specs.Agreements.{AgreedValues}
 use Rattle.as2_exchange.specs.Lines.{refusal}
 use Rattle.as2_exchange.specs.State.{State}
@@ -27,24 +27,26 @@ module _ (A : AgreedValues) (moment : ℕ) where
     pub responds : Responds A moment s r response Safe t
     pub reply : GivesReply moment (form_of r) (http_answer response) (not r.last) text stays
 
-  -- .. and bytes that no request begins with change nothing
-  abbrev pub AnswersIn : State → State → (State → Type 0) → Beginning → List ℕ → Bool → Type 0
-  AnswersIn s t Safe (beginning.Request r) text stays = AnswersRequest s t Safe r text stays
-  AnswersIn s t Safe (beginning.NoRequest refused) text stays =
-      (t ≡ s) × GivesReply moment (refusal_form refused) (refusal (refusal_line refused.reason)) false text stays
-
   -- records that stand for a state stand for the one that is left; where they are clean then, they were
-  pub record AnswersAsked {M : Medium} (old new : Standing M) (asked : Beginning) (text : List ℕ) (stays : Bool) : Type 0 where
+  pub record AnswersOver {M : Medium} (old new : Standing M) (r : Request) (text : List ℕ) (stays : Bool) : Type 0 where
     pub clean : new.IsClean → old.IsClean
-    pub answers : new.IsClean → (s : State) → old.Rests s → (t : State) × new.Rests t × AnswersIn s t (IsSafe new) asked text stays
+    pub answers : new.IsClean → (s : State) → old.Rests s → (t : State) × new.Rests t × AnswersRequest s t (IsSafe new) r text stays
 
--- the station answers at its moment, over its agreements, and at once; so that no round is lost
+-- At its moment and over its agreements the station answers a request; bytes that no request begins with get their reply, and change
+-- nothing.
+abbrev pub AnswersAt : {M : Medium} {K : Type 0} → (K → Standing M) → StationDesk K → Beginning → List ℕ → Bool → StationDesk K → Type 0
+AnswersAt shows d (beginning.Request r) text stays e =
+    (e ≡ record d { station = e.station }) × AnswersOver d.agreements.now d.moment (shows d.station) (shows e.station) r text stays
+AnswersAt shows d (beginning.NoRequest refused) text stays e =
+    (e ≡ d) × GivesReply d.moment (refusal_form refused) (refusal (refusal_line refused.reason)) false text stays
+
+-- what the station answers is kept at once, so that no round is lost
 abbrev pub conduct_by : {M : Medium} {K : Type 0} → (K → Standing M) → Conduct (StationDesk K)
 conduct_by {M} {K} shows = record {
   Kept = StationDesk K;
   kept = λ d. d;
-  answers = λ d asked text stays e. (e.agreements ≡ d.agreements) × (e.moment ≡ d.moment)
-      × AnswersAsked d.agreements.now d.moment (shows d.station) (shows e.station) asked text stays;
+  answers = AnswersAt shows;
+  at_rest = λ d. ⊤;
   settles = λ d e. e ≡ d;
   may_lose = λ d. false;
 }

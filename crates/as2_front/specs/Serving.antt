@@ -1,5 +1,5 @@
 -- What the station comes to that serves many connections: the headline of the station holds of it.
-use Rattle.std.specs.Prelude.{◌≡◌, ℕ, false, List, [], ◌∷◌, ◌++◌}
+use Rattle.std.specs.Prelude.{◌≡◌, ℕ, false, List, [], ◌∷◌, ◌++◌, ⊤}
 use Rattle.as2_agreement.specs.Agreements.{AgreedValues}
 use Rattle.as2_exchange.specs.Lines.{refusal}
 use Rattle.as2_exchange.specs.Run.{Run}
@@ -30,6 +30,16 @@ kept_calls (Comes c piece ∷ h) = kept_calls h
 kept_calls (Goes c piece ∷ h) = kept_calls h
 kept_calls (Closes c ∷ h) = kept_calls h
 
+-- no round was lost
+abbrev pub LosesNone : Happenings → Type 0
+LosesNone [] = ⊤
+LosesNone (Keeps round ∷ h) = LosesNone h
+LosesNone (Loses round ∷ h) = ⊥
+LosesNone (Opens c ∷ h) = LosesNone h
+LosesNone (Comes c piece ∷ h) = LosesNone h
+LosesNone (Goes c piece ∷ h) = LosesNone h
+LosesNone (Closes c ∷ h) = LosesNone h
+
 module _ (A : AgreedValues) (moment : ℕ) where
   -- what a connection begins with gets that in the state s, which leaves t: a request gets its response and its reply; bytes that no
   -- request begins with get their reply, and change nothing
@@ -45,14 +55,21 @@ module _ (A : AgreedValues) (moment : ℕ) where
       × GetsAnswer mid t e.asked e now × (done ≡ before ++ now)
 
 module _ {M : Medium} {K : Type 0} (shows : K → Standing M) where
-  -- What is promised of many connections is kept. The calls of the rounds that were kept, and no other, were answered one after the other:
-  -- their posts, in that order, led the machine from s to the state that the records now stand for; and what stands of each document is
-  -- its history.
-  pub record ServesMany (inputs : List Input) (old new : Scene (StationDesk K)) (s : State) : Type 0 where
-    pub promised : KeepsPromises (conduct_by shows) inputs old new
+  -- Where the records stood for the state s: the calls of the rounds that were kept, and no other, were answered one after the other; their
+  -- posts, in that order, led the machine to the state that the records now stand for; and what stands of each document is its history.
+  pub record ServesFrom (old new : StationDesk K) (h : Happenings) (s : State) : Type 0 where
     pub done : List RequestAndResponse
     pub left : State
-    pub rests : (shows new.desk.station).Rests left
-    pub answered : AnswersCalls old.desk.agreements.now old.desk.moment s (kept_calls promised.happenings) done left
-    pub run : Run old.desk.agreements.now s (stream_events old.desk.moment done) left
-    pub by_history : EndsByHistory old.desk.agreements.now s (stream_events old.desk.moment done) left
+    pub rests : (shows new.station).Rests left
+    pub answered : AnswersCalls old.agreements.now old.moment s (kept_calls h) done left
+    pub run : Run old.agreements.now s (stream_events old.moment done) left
+    pub by_history : EndsByHistory old.agreements.now s (stream_events old.moment done) left
+
+  -- What is promised of many connections is kept, no round was lost, and the station served them.
+  pub record ServesMany (inputs : List Input) (old new : Scene (StationDesk K)) : Type 0 where
+    pub promised : KeepsPromises (conduct_by shows) inputs old new
+    pub none_lost : LosesNone promised.happenings
+    pub same : new.desk ≡ record old.desk { station = new.desk.station }
+    pub clean : (shows new.desk.station).IsClean → (shows old.desk.station).IsClean
+    pub serves : (shows new.desk.station).IsClean → (s : State) → (shows old.desk.station).Rests s
+        → ServesFrom old.desk new.desk promised.happenings s

@@ -30,7 +30,7 @@ impl<'a, K: Records> StationDesk<'a, K> {
         station: Station<K>,
     ) -> StationDesk<'a, K>
         ensures alloc { result.alloc ≡ alloc }
-        ensures agreements { result.agreements ≡ agreements }
+        ensures agreements { result.agreements.now ≡ agreements.now }
         ensures moment { result.moment ≡ moment }
         ensures station { result.station ≡ station }
     {
@@ -51,7 +51,7 @@ impl<'a, K: Records> StationDesk<'a, K> {
 
     /// Gives the station back.
     pub fn into_station(self) -> Station<K>
-        ensures { result ≡ self.station }
+        ensures { result ≡ self.entry.station }
     {
         self.station
     }

@@ -1,8 +1,6 @@
 //! What happens at many connections over the station.
-ghost use Rattle.std.specs.Prelude.{◌≡◌, ◌≤◌, List, ℕ, length, replicate, slice_get, take, None};
-ghost use Rattle.as2_exchange.specs.State.{State};
+ghost use Rattle.std.specs.Prelude.{◌≤◌, length, slice_get, take};
 ghost use Rattle.as2_hub.specs.Inputs.{StopsBefore};
-ghost use Rattle.as2_hub.specs.Places.{places};
 ghost use Rattle.as2_hub.specs.Rounds.{scene};
 ghost use Rattle.as2_front.specs.Serving.{ServesMany};
 
@@ -15,11 +13,7 @@ use as2_records::Records;
 pub fn play<K: Records>(hub: &mut Hub, desk: &mut StationDesk<'_, K>, inputs: &[Input]) -> usize
     ensures count { result ≤ length inputs.now }
     ensures stops { StopsBefore hub.new (slice_get inputs.now result) }
-    ensures clean { places hub.old ≡ replicate hub.old.bounds.connections None
-        → (K.shows desk.new.station).IsClean → (K.shows desk.old.station).IsClean }
-    ensures serves { places hub.old ≡ replicate hub.old.bounds.connections None
-        → (K.shows desk.new.station).IsClean → (s : State) → (K.shows desk.old.station).Rests s
-        → ServesMany K.shows (take result inputs.now) (scene desk.old hub.old) (scene desk.new hub.new) s }
+    ensures serves { ServesMany K.shows (take result inputs.now) (scene desk.old hub.old) (scene desk.new hub.new) }
 {
     hub.play(desk, inputs)
 }

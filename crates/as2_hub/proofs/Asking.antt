@@ -6,12 +6,12 @@ use Rattle.std.specs.Prelude.{slice_get, slice_set}
 use Rattle.std.specs.Int.{from_bool}
 use Rattle.std.proofs.lemmas.Bool.Decides.{eqb_tells}
 use Rattle.std.proofs.lemmas.List.Elements.{filter_agree}
-use Rattle.as2_hub.specs.Bounded.{ReadsNoMore}
+use Rattle.as2_hub.specs.Bounded.{HoldsNoMore}
 use Rattle.as2_hub.specs.Calls.{DeskCall, calls_at}
 use Rattle.as2_hub.specs.Conduct.{Conduct}
 use Rattle.as2_hub.specs.Places.{StandAmid, is_ready_in, places, without_reply}
 use Rattle.as2_hub.specs.Rounds.{AsksPlace, AsksPlaces, MakesCalls, Scene, scene}
-use Rattle.as2_hub.specs.Talks.{AnswersWaiting, AsksDesk, HoldsReply, HoldsRest, awaiting, is_ready, unread_of}
+use Rattle.as2_hub.specs.Talks.{AnswersWaiting, AsksDesk, HoldsReply, HoldsRest, awaiting, is_ready, unanswered_of}
 use Rattle.as2_hub.specs.declared.beginning.Beginning.{Beginning}
 use Rattle.as2_hub.specs.declared.desk.Reply.{Reply}
 use Rattle.as2_hub.specs.declared.hub.Hub.{Hub}
@@ -227,9 +227,9 @@ module _ {S : Type 0} (D : Conduct S) where
       let same_places = asks_same desk later old new at t next is sets it.1 it.2 in
       record { made = makes_none desk later old new it.1 same_places; turn = (ap is_ready_in is ∙ it.0, refl, same_places) }
 
-  pub unread_asked : (desk later : S) (t next : Talk) (b : Bool) → AsksDesk D desk later t next b → unread_of next ≡ unread_of t
-  unread_asked desk later t next true it = ap unread_of it.held
-  unread_asked desk later t next false it = ap unread_of it.2
+  pub unread_asked : (desk later : S) (t next : Talk) (b : Bool) → AsksDesk D desk later t next b → unanswered_of next ≡ unanswered_of t
+  unread_asked desk later t next true it = ap unanswered_of it.held
+  unread_asked desk later t next false it = ap unanswered_of it.2
 
   -- ---- as far as a round has come
 
@@ -237,7 +237,7 @@ module _ {S : Type 0} (D : Conduct S) where
   pub record Going (old now : Scene S) (named remaining : List ℕ) (left : ℕ) : Type 0 where
     pub made : MakesCalls D old.desk now.desk (places old.hub) (places now.hub)
     pub asked : places_asked old.hub named ≡ called_places made.calls ++ asked_next (is_ready_at (places now.hub)) left remaining
-    pub unread : ReadsNoMore (places old.hub) (places now.hub)
+    pub unread : HoldsNoMore (places old.hub) (places now.hub)
     pub bounds : now.hub.bounds ≡ old.hub.bounds
 
   pub going_first : (old : Scene S) (named : List ℕ) → Going old old named named old.hub.bounds.requests
@@ -267,7 +267,7 @@ module _ {S : Type 0} (D : Conduct S) where
 
   pub going_on : (old mid new : Scene S) (named remaining more : List ℕ) (left later at : ℕ) (b : Bool) → 0 < left → left ≡ later + from_bool b
       → remaining ≡ at ∷ more → AsksPlace D at mid new b
-      → ReadsNoMore (places mid.hub) (places new.hub) → new.hub.bounds ≡ mid.hub.bounds
+      → HoldsNoMore (places mid.hub) (places new.hub) → new.hub.bounds ≡ mid.hub.bounds
       → Going old mid named remaining left → Going old new named more later
   going_on old mid new named remaining more left later at b some count cut one less bounds it = record {
     made = calls_then D old.desk mid.desk new.desk (places old.hub) (places mid.hub) (places new.hub) it.made one.made;

@@ -7,7 +7,7 @@ use Rattle.as2_hub.specs.Calls.{AnswersInOrder, DeskCall, calls_at}
 use Rattle.as2_hub.specs.Conduct.{Conduct, Chain, GoesOn, Round}
 use Rattle.as2_hub.specs.Happenings.{Happenings, Keeps, Loses, is_open_after, bytes_from, calls_of}
 use Rattle.as2_hub.specs.Talks.{HoldsRest, Pends, before_calls}
-use Rattle.as2_hub.specs.Places.{WaitsOn, PlaceStands, StandAmid, StandAfter, places}
+use Rattle.as2_hub.specs.Places.{ChangesOnlyIfKept, PlaceStands, StandAmid, StandAfter, places}
 use Rattle.as2_hub.specs.Rounds.{AnswersWhatWaits, AsksPlaces, LeavesOthers, MakesCalls, Scene, SettlesRound}
 use Rattle.as2_hub.specs.declared.talk.Talk.{Talk}
 use Rattle.as2_hub.proofs.Reading.{in_order, in_order_with}
@@ -97,13 +97,13 @@ module _ {S : Type 0} (D : Conduct S) where
       subst (λ (x : List DeskCall). StandAmid (places mid.hub) h x) (append-nil it.made.calls) (it.made.goes_on h [] stand)
 
   -- the round is kept
-  pub round_kept : (old mid new : Scene S) (named : List ℕ) → AsksPlaces D named old mid → D.settles mid.desk new.desk
+  pub round_kept : (old mid new : Scene S) (named : List ℕ) → AsksPlaces D named old mid → D.settles mid.desk new.desk → D.at_rest new.desk
       → ((h : Happenings) (round : List DeskCall) → StandAmid (places mid.hub) h round → StandAfter (places new.hub) (Keeps round ∷ h))
-      → ((c : ℕ) → WaitsOn true (slice_get (places mid.hub) c) (slice_get (places new.hub) c)) → SettlesRound D named old new true
-  round_kept old mid new named it settled on waits = record {
+      → ((c : ℕ) → ChangesOnlyIfKept true (slice_get (places mid.hub) c) (slice_get (places new.hub) c)) → SettlesRound D named old new true
+  round_kept old mid new named it settled rests on waits = record {
     calls = it.made.calls;
     turns = it.turns;
-    round = record { called = mid.desk; chain = it.made.chain; ended = settled };
+    round = record { called = mid.desk; chain = it.made.chain; ended = settled; rests = rests };
     answer = λ h stand. answered (places mid.hub) h it.made.calls (amid old mid named it h stand);
     stands = λ h stand. on h it.made.calls (amid old mid named it h stand);
     others = λ h stand. left_silent h it.made.calls (places old.hub) (places mid.hub) (places new.hub) stand (amid old mid named it h stand)
@@ -111,13 +111,13 @@ module _ {S : Type 0} (D : Conduct S) where
   }
 
   -- .. or lost
-  pub round_lost : (old mid new : Scene S) (named : List ℕ) → AsksPlaces D named old mid → D.may_lose mid.desk ≡ true
-      → D.kept new.desk ≡ D.kept mid.desk → ((c : ℕ) → WaitsOn false (slice_get (places mid.hub) c) (slice_get (places new.hub) c))
+  pub round_lost : (old mid new : Scene S) (named : List ℕ) → AsksPlaces D named old mid → D.may_lose mid.desk ≡ true → D.at_rest new.desk
+      → D.kept new.desk ≡ D.kept mid.desk → ((c : ℕ) → ChangesOnlyIfKept false (slice_get (places mid.hub) c) (slice_get (places new.hub) c))
       → SettlesRound D named old new false
-  round_lost old mid new named it may keeps waits = record {
+  round_lost old mid new named it may rests keeps waits = record {
     calls = it.made.calls;
     turns = it.turns;
-    round = record { called = mid.desk; chain = it.made.chain; ended = keeps ∙ it.made.on.keeps might };
+    round = record { called = mid.desk; chain = it.made.chain; ended = (might, keeps ∙ it.made.on.keeps might); rests = rests };
     answer = λ h stand. answered (places mid.hub) h it.made.calls (amid old mid named it h stand);
     stands = λ h stand. subst (λ (l : List (Option Talk)). StandAfter l (Loses it.made.calls ∷ h)) (sym (left h stand))
         (lost (places old.hub) h it.made.calls stand);
@@ -130,10 +130,10 @@ module _ {S : Type 0} (D : Conduct S) where
       left : (h : Happenings) → StandAfter (places old.hub) h → LeavesOthers false it.made.calls (places old.hub) (places new.hub)
       left h stand = left_all h it.made.calls (places old.hub) (places mid.hub) (places new.hub) stand (it.made.back might) waits
 
-  pub round_settled : (old mid new : Scene S) (named : List ℕ) (verdict : Bool) → AsksPlaces D named old mid
+  pub round_settled : (old mid new : Scene S) (named : List ℕ) (verdict : Bool) → AsksPlaces D named old mid → D.at_rest new.desk
       → (IsTrue verdict → D.settles mid.desk new.desk) → (verdict ≡ false → D.may_lose mid.desk ≡ true)
       → (verdict ≡ false → D.kept new.desk ≡ D.kept mid.desk)
       → (IsTrue verdict → (h : Happenings) (round : List DeskCall) → StandAmid (places mid.hub) h round → StandAfter (places new.hub) (Keeps round ∷ h))
-      → ((c : ℕ) → WaitsOn verdict (slice_get (places mid.hub) c) (slice_get (places new.hub) c)) → SettlesRound D named old new verdict
-  round_settled old mid new named true it settled may keeps on waits = round_kept old mid new named it (settled refl) (on refl) waits
-  round_settled old mid new named false it settled may keeps on waits = round_lost old mid new named it (may refl) (keeps refl) waits
+      → ((c : ℕ) → ChangesOnlyIfKept verdict (slice_get (places mid.hub) c) (slice_get (places new.hub) c)) → SettlesRound D named old new verdict
+  round_settled old mid new named true it rests settled may keeps on waits = round_kept old mid new named it (settled refl) rests (on refl) waits
+  round_settled old mid new named false it rests settled may keeps on waits = round_lost old mid new named it (may refl) rests (keeps refl) waits

@@ -1,7 +1,7 @@
 -- What happens by the inputs, one after the other, and what is promised then.
 -- The plan: `takes_*` puts together what an input comes to, from what the call says of itself; `plays_push` puts an input behind others,
--- and what holds of each input holds of all (`plays_*`); `kept_promises` reads the promises off the places at the end.
-use Rattle.std.proofs.Common.{◌≡◌, inl, inr, take, min, length-take, Vec, Global, ℕ, ◌<◌, ◌≤◌, length, Bool, true, false, true≢false, List, [], ◌∷◌, ◌++◌, Option, Some, None, IsTrue, refl, sym, ap, subst, ◌∙◌, append_assoc, append-nil, arith, replicate}
+-- and what holds of each input holds of all (`plays_*`); `promised` reads what is promised off the places, and `kept_promises` is the whole.
+use Rattle.std.proofs.Common.{◌≡◌, inl, inr, take, min, length-take, Vec, Global, ℕ, ◌<◌, ◌≤◌, length, Bool, true, false, true≢false, List, [], ◌∷◌, ◌++◌, Option, Some, None, IsTrue, refl, sym, ap, subst, ◌∙◌, append_assoc, append-nil, arith}
 use Rattle.std.specs.Prelude.{slice_get, slice_set}
 use Rattle.std.proofs.lemmas.Bool.{cases_lt}
 use Rattle.std.proofs.lemmas.List.{take_all}
@@ -11,7 +11,7 @@ use Rattle.as2_hub.specs.Happenings.{Happenings, Opens, Comes, Keeps, Loses, Goe
 use Rattle.as2_hub.specs.Places.{OpensTalk, PlaceStands, SetsOutput, StandAmid, StandAfter, ended_round, is_reading_in, is_vacant, output_at, places}
 use Rattle.as2_hub.specs.Bounded.{KeepsBounds}
 use Rattle.as2_hub.specs.Turns.{called_places, places_asked}
-use Rattle.as2_hub.specs.Inputs.{ChangesPlaces, HappensBy, comes_if, goes_to, opens_if}
+use Rattle.as2_hub.specs.Inputs.{ChangesPlaces, HappensBy, comes_if, fits_in, goes_to, opens_if, piece_fits}
 use Rattle.as2_hub.specs.Rounds.{AnswersWhatWaits, AnswerWhatWaited, LeavesOthers, Scene, SettlesRound, scene}
 use Rattle.as2_hub.specs.Promises.{KeepsPromises, Leads, PlaysInputs, Promise, Takes}
 use Rattle.as2_hub.specs.declared.hub.Hub.{Hub}
@@ -19,8 +19,6 @@ use Rattle.as2_hub.specs.declared.input.Input.{Input}
 use Rattle.as2_hub.specs.declared.input.Input.TheVariants as input
 use Rattle.as2_hub.specs.declared.talk.Talk.{Talk}
 use Rattle.as2_hub.proofs.Reading.{in_order}
-use Rattle.as2_hub.proofs.Standing.{vacant}
-use Rattle.as2_hub.proofs.Within.{within_vacant}
 
 -- the first bytes, up to a number of them
 cut_at_most : (n most : ℕ) (bytes : List ℕ) → n ≡ min most (length bytes) → take n bytes ≡ take most bytes
@@ -59,6 +57,24 @@ quiet_answers (Loses round ∷ more) h is it = absurd is
 quiet_answers (Goes c piece ∷ more) h is it = absurd is
 quiet_answers (Closes c ∷ more) h is it = absurd is
 
+-- ---- what is promised
+
+-- of a connection that stands so
+pub promised : (talks : List (Option Talk)) (h : Happenings) → StandAfter talks h → (c : ℕ) → is_open_after c h ≡ true → Promise c h (output_at (slice_get talks c))
+unfolding StandAmid
+promised talks h it c taken = go (slice_get talks c) (it c)
+  where
+    go : (o : Option (Option Talk)) → PlaceStands c h [] o → Promise c h (output_at o)
+    go None is = absurd (true≢false (sym taken ∙ is.0))
+    go (Some None) is = absurd (true≢false (sym taken ∙ is.0))
+    go (Some (Some t)) is = record { answered = in_order t (bytes_from c h) (calls_of c h) is.rest; written = is.written }
+
+-- ---- the inputs
+
+-- an input fits that is this one
+fits_by : (hub : Hub) (i : Input) {j : Input} → i ≡ j → fits_in hub j ≡ true → fits_in hub i ≡ true
+fits_by hub i is it = ap (λ (x : Input). fits_in hub x) is ∙ it
+
 module _ {S : Type 0} (D : Conduct S) where
   quiet_leads : (desk : S) (more : Happenings) → IsQuiet more → Leads D desk more desk
   quiet_leads desk [] is = refl
@@ -79,6 +95,7 @@ module _ {S : Type 0} (D : Conduct S) where
   takes_opens desk hub next i at true is free on opens off bounded = (
     Opens at ∷ [],
     record {
+      fits = fits_by hub i is refl;
       by_input = subst (λ (x : Input). HappensBy hub x (Opens at ∷ [])) (sym is) (ap (λ (b : Bool). opens_if at b) free);
       leads = refl;
       answer = λ h stand it. it;
@@ -90,6 +107,7 @@ module _ {S : Type 0} (D : Conduct S) where
   takes_opens desk hub next i at false is free on opens off bounded = (
     [],
     record {
+      fits = fits_by hub i is refl;
       by_input = subst (λ (x : Input). HappensBy hub x []) (sym is) (ap (λ (b : Bool). opens_if at b) free);
       leads = refl;
       answer = λ h stand it. it;
@@ -106,6 +124,7 @@ module _ {S : Type 0} (D : Conduct S) where
   takes_closes desk hub next i at is on empties bounded = (
     Closes at ∷ [],
     record {
+      fits = fits_by hub i is refl;
       by_input = subst (λ (x : Input). HappensBy hub x (Closes at ∷ [])) (sym is) refl;
       leads = refl;
       answer = λ h stand it. it;
@@ -121,6 +140,7 @@ module _ {S : Type 0} (D : Conduct S) where
   takes_turns old new hub next i ready named verdict is same it bounded = (
     ended_round verdict it.calls [],
     record {
+      fits = fits_by hub i is refl;
       by_input = subst (λ (x : Input). HappensBy hub x (ended_round verdict it.calls [])) (sym is)
           (verdict, it.calls, it.turns ∙ ap (λ (l : List ℕ). places_asked hub l) same, refl);
       leads = one_round verdict it.calls it.round;
@@ -151,15 +171,16 @@ module _ {S : Type 0} (D : Conduct S) where
       stands_more false h calls it = it
 
   pub takes_comes : (desk : S) (hub next : Hub) (i : Input) (at : ℕ) (piece : Vec ℕ Global) (bytes : List ℕ) → i ≡ input.Comes at piece
-      → bytes ≡ piece.items
+      → bytes ≡ piece.items → piece_fits hub at bytes ≡ true
       → ((h : Happenings) → StandAfter (places hub) h → StandAfter (places next) (comes_if (is_reading_in (slice_get (places hub) at)) at bytes ++ h))
       → ChangesPlaces (comes_if (is_reading_in (slice_get (places hub) at)) at bytes) (places hub) (places next)
       → KeepsBounds hub next → (more : Happenings) × Takes D i (scene desk hub) more (scene desk next)
-  takes_comes desk hub next i at piece bytes is same on changes bounded =
+  takes_comes desk hub next i at piece bytes is same fits on changes bounded =
       let more = comes_if (is_reading_in (slice_get (places hub) at)) at bytes in
       let quiet = quiet_comes (is_reading_in (slice_get (places hub) at)) at bytes in (
         more,
         record {
+          fits = fits_by hub i is (ap (λ (l : List ℕ). piece_fits hub at l) (sym same) ∙ fits);
           by_input = subst (λ (x : Input). HappensBy hub x more) (sym is) (ap (λ (l : List ℕ). comes_if (is_reading_in (slice_get (places hub) at)) at l) same);
           leads = quiet_leads desk more quiet;
           answer = λ h stand it. quiet_answers more h quiet it;
@@ -187,6 +208,7 @@ module _ {S : Type 0} (D : Conduct S) where
       go [] nothing = (
         [],
         record {
+          fits = fits_by hub i is refl;
           by_input = by [] (ap (λ (l : List ℕ). goes_to at l) (sym nothing));
           leads = refl;
           answer = λ h stand it. it;
@@ -200,6 +222,7 @@ module _ {S : Type 0} (D : Conduct S) where
           let size : n ≡ length (b ∷ l) = omega (arith, count, length-take n (output_at (slice_get (places hub) at)), ap length some) in (
             Goes at (b ∷ l) ∷ [],
             record {
+              fits = fits_by hub i is refl;
               by_input = by (Goes at (b ∷ l) ∷ []) (ap (λ (x : List ℕ). goes_to at x) (sym some));
               leads = refl;
               answer = λ h stand it. it;
@@ -263,35 +286,13 @@ module _ {S : Type 0} (D : Conduct S) where
       let later : KeepsBounds it.0.hub b.hub = plays_bounded inputs it.0 b it.2 it.4 in
       record { bounds = later.bounds ∙ first.bounds; within = λ w. later.within (first.within w) }
 
-  -- ---- what is promised
-
-  promised : (next : List (Option Talk)) (c : ℕ) (h : Happenings) → StandAfter next h → is_open_after c h ≡ true → Promise c h (output_at (slice_get next c))
-  unfolding StandAmid
-  promised next c h it taken = go (slice_get next c) (it c)
-    where
-      go : (o : Option (Option Talk)) → PlaceStands c h [] o → Promise c h (output_at o)
-      go None is = absurd (true≢false (sym taken ∙ is.0))
-      go (Some None) is = absurd (true≢false (sym taken ∙ is.0))
-      go (Some (Some t)) is = record { answered = in_order t (bytes_from c h) (calls_of c h) is.rest; written = is.written }
-
-  pub kept_promises : (inputs : List Input) (old new : Scene S) (h : Happenings) → places old.hub ≡ replicate old.hub.bounds.connections None
-      → PlaysInputs D inputs old h new → KeepsPromises D inputs old new
-  kept_promises inputs old new h empty it = record {
+  pub kept_promises : (inputs : List Input) (old new : Scene S) (h : Happenings) → PlaysInputs D inputs old h new → KeepsPromises D inputs old new
+  kept_promises inputs old new h it = record {
     happenings = h;
     plays = it;
     leads = plays_lead inputs old new h it;
-    answer = subst (λ (g : Happenings). AnswerWhatWaited g) (append-nil h) (plays_answer inputs old new h it [] nobody tt);
-    promised = λ c taken. promised (places new.hub) c h stands taken;
-    stands = stands;
-    bounds = bounded.bounds;
-    within = bounded.within (within_vacant old.hub empty);
+    answer = plays_answer inputs old new h it;
+    stands = plays_stand inputs old new h it;
+    promised = λ before stand c taken. promised (places new.hub) (h ++ before) (plays_stand inputs old new h it before stand) c taken;
+    bounded = plays_bounded inputs old new h it;
   }
-    where
-      nobody : StandAfter (places old.hub) []
-      nobody = subst (λ (x : List (Option Talk)). StandAfter x []) (sym empty) (vacant old.hub.bounds.connections)
-
-      stands : StandAfter (places new.hub) h
-      stands = subst (λ (g : Happenings). StandAfter (places new.hub) g) (append-nil h) (plays_stand inputs old new h it [] nobody)
-
-      bounded : KeepsBounds old.hub new.hub
-      bounded = plays_bounded inputs old new h it

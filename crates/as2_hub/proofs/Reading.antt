@@ -1,11 +1,11 @@
 -- More bytes come from a connection, and what waits is answered.
-use Rattle.std.proofs.Common.{◌≡◌, inl, inr, ℕ, ◌+◌, ◌≤◌, Bool, true, false, true≢false, List, [], ◌∷◌, ◌++◌, drop, take, ◌-◌, length, Option, Some, None, IsSome, is_some, arith, refl, sym, ap, subst, ◌∙◌, length-append, length-drop}
-use Rattle.std.proofs.lemmas.List.{take_all}
+use Rattle.std.proofs.Common.{◌≡◌, inl, inr, ℕ, ◌+◌, ◌<◌, ◌≤◌, Bool, true, false, true≢false, List, [], ◌∷◌, ◌++◌, drop, take, ◌-◌, length, Option, Some, None, IsSome, is_some, arith, refl, sym, ap, subst, ◌∙◌, length-append, length-drop}
+use Rattle.std.proofs.lemmas.List.{drop_all, take_all}
 use Rattle.as2_messages.specs.Parsing.{HasTaken}
 use Rattle.as2_messages.specs.declared.parser.RequestParser.{RequestParser}
 use Rattle.as2_messages.proofs.Framed.{begins_append, refuses_append}
 use Rattle.as2_hub.specs.Calls.{DeskCall, GoesOnBehind, EndsBehind, MayStay, ReadsTo, ReadsToEnd, AnswersInOrder}
-use Rattle.as2_hub.specs.Talks.{UnreadBy, HoldsUnanswered, HoldsRest, KeepsBehind, unread_of}
+use Rattle.as2_hub.specs.Talks.{UnansweredBy, HoldsUnanswered, HoldsRest, KeepsBehind, unanswered_of}
 use Rattle.as2_hub.specs.declared.beginning.Beginning.{Beginning}
 use Rattle.as2_hub.specs.declared.beginning.Beginning.TheVariants as beginning
 use Rattle.as2_hub.specs.declared.talk.Talk.{Talk}
@@ -30,25 +30,47 @@ pub reads_end_append : (text more : List ℕ) (calls : List DeskCall) → ReadsT
 reads_end_append text more [] it = absurd it
 reads_end_append text more (e ∷ earlier) it = (it.0 ++ more, reads_append text more earlier it.0 it.1, ends_append it.0 more e.asked e.stays it.2)
 
+-- some bytes before or behind others are some
+pub some_before : (xs ys : List ℕ) → ¬ (xs ≡ []) → ¬ (xs ++ ys ≡ [])
+some_before [] ys some = absurd (some refl)
+some_before (x ∷ xs) ys some = λ none. cc
+
+pub some_behind : (xs ys : List ℕ) → ¬ (ys ≡ []) → ¬ (xs ++ ys ≡ [])
+some_behind [] ys some = some
+some_behind (x ∷ xs) ys some = λ none. cc
+
+-- the connection is given up, with some bytes that came
+pub gave_up : (p : Option RequestParser) (w : Option Beginning) (n : ℕ) (text bytes : List ℕ) → p ≡ None → w ≡ None → 0 < length bytes → length bytes ≤ n
+    → UnansweredBy p w true 0 (drop n bytes) (text ++ bytes)
+gave_up p w n text bytes none free some all =
+    subst (λ (o : Option RequestParser). UnansweredBy o w true 0 (drop n bytes) (text ++ bytes)) (sym none)
+    (subst (λ (o : Option Beginning). UnansweredBy None o true 0 (drop n bytes) (text ++ bytes)) (sym free)
+    (refl, some_behind text bytes (λ nothing. omega (arith, some, ap length nothing)), refl, drop_all n bytes all))
+
 -- nothing more is read, and what waits begins a longer text too
-spent_append : (w : Option Beginning) (spent : Bool) (taken : ℕ) (behind other text more : List ℕ) → UnreadBy None w spent taken behind text
-    → UnreadBy None w spent taken other (text ++ more)
-spent_append None spent taken behind other text more it = it
-spent_append (Some (beginning.Request r)) spent taken behind other text more it = (
+spent_append : (w : Option Beginning) (spent : Bool) (taken : ℕ) (behind text more : List ℕ) → UnansweredBy None w spent taken behind text
+    → UnansweredBy None w spent taken behind (text ++ more)
+spent_append None spent taken behind text more it = (it.0, some_before text more it.1, it.2, it.3)
+spent_append (Some (beginning.Request r)) spent taken behind text more it = (
   it.0,
-  (it.1.0 ++ more, begins_append text more r it.1.0 it.1.1, omega (arith, it.1.2, length-append text more, length-append it.1.0 more)),
+  (
+    it.1.0 ++ more,
+    begins_append text more r it.1.0 it.1.1,
+    some_before it.1.0 more it.1.2,
+    omega (arith, it.1.3, length-append text more, length-append it.1.0 more),
+  ),
 )
-spent_append (Some (beginning.NoRequest refused)) spent taken behind other text more it = refuses_append text more refused it
+spent_append (Some (beginning.NoRequest refused)) spent taken behind text more it = refuses_append text more refused it
 
 -- memory wasn't there for what came behind
-spent_of : (p : Option RequestParser) (w : Option Beginning) (spent : Bool) (taken : ℕ) (behind other text : List ℕ) → UnreadBy p w spent taken behind text
-    → (IsSome p → taken + length behind ≡ length text) → UnreadBy None w true taken other text
-spent_of (Some p) None spent taken behind other text it counted = refl
-spent_of (Some p) (Some (beginning.Request r)) spent taken behind other text it counted = (refl, (behind, it.1, omega (arith, counted refl)))
-spent_of (Some p) (Some (beginning.NoRequest refused)) spent taken behind other text it counted = absurd it
-spent_of None None spent taken behind other text it counted = refl
-spent_of None (Some (beginning.Request r)) spent taken behind other text it counted = (refl, it.1)
-spent_of None (Some (beginning.NoRequest refused)) spent taken behind other text it counted = it
+spent_of : (p : Option RequestParser) (w : Option Beginning) (spent : Bool) (taken : ℕ) (behind other text : List ℕ) → UnansweredBy p w spent taken behind text
+    → ¬ (behind ≡ []) → (IsSome p → taken + length behind ≡ length text) → UnansweredBy None w true taken other text
+spent_of (Some p) None spent taken behind other text it some counted = absurd (some it.1)
+spent_of (Some p) (Some (beginning.Request r)) spent taken behind other text it some counted = (refl, (behind, it.1, some, omega (arith, counted refl)))
+spent_of (Some p) (Some (beginning.NoRequest refused)) spent taken behind other text it some counted = absurd it
+spent_of None None spent taken behind other text it some counted = absurd (some it.3)
+spent_of None (Some (beginning.Request r)) spent taken behind other text it some counted = (refl, it.1)
+spent_of None (Some (beginning.NoRequest refused)) spent taken behind other text it some counted = it
 
 none_not_some : {A : Type 0} (o : Option A) → o ≡ None → IsSome o → ⊥
 none_not_some None is some = absurd (true≢false (sym some))
@@ -57,25 +79,25 @@ none_not_some (Some x) is some = cc
 -- what is unread of a talk with such fields
 unread_at : (t : Talk) (p : Option RequestParser) (w : Option Beginning) (s : Bool) (n : ℕ) (b text : List ℕ) → t.parser ≡ p → t.waiting ≡ w
     → t.is_spent ≡ s → t.taken ≡ n → t.behind.items ≡ b
-    → UnreadBy p w s n b text → UnreadBy t.parser t.waiting t.is_spent t.taken t.behind.items text
+    → UnansweredBy p w s n b text → UnansweredBy t.parser t.waiting t.is_spent t.taken t.behind.items text
 unread_at t p w s n b text parser waiting spent taken behind it =
-    subst (λ (o : Option RequestParser). UnreadBy o t.waiting t.is_spent t.taken t.behind.items text) (sym parser)
-    (subst (λ (o : Option Beginning). UnreadBy p o t.is_spent t.taken t.behind.items text) (sym waiting)
-    (subst (λ (o : Bool). UnreadBy p w o t.taken t.behind.items text) (sym spent)
-    (subst (λ (k : ℕ). UnreadBy p w s k t.behind.items text) (sym taken)
-    (subst (λ (x : List ℕ). UnreadBy p w s n x text) (sym behind) it))))
+    subst (λ (o : Option RequestParser). UnansweredBy o t.waiting t.is_spent t.taken t.behind.items text) (sym parser)
+    (subst (λ (o : Option Beginning). UnansweredBy p o t.is_spent t.taken t.behind.items text) (sym waiting)
+    (subst (λ (o : Bool). UnansweredBy p w o t.taken t.behind.items text) (sym spent)
+    (subst (λ (k : ℕ). UnansweredBy p w s k t.behind.items text) (sym taken)
+    (subst (λ (x : List ℕ). UnansweredBy p w s n x text) (sym behind) it))))
 
 -- .. and back
 unread_as : (t : Talk) (p : Option RequestParser) (w : Option Beginning) (text : List ℕ) → t.parser ≡ p → t.waiting ≡ w
-    → UnreadBy t.parser t.waiting t.is_spent t.taken t.behind.items text → UnreadBy p w t.is_spent t.taken t.behind.items text
+    → UnansweredBy t.parser t.waiting t.is_spent t.taken t.behind.items text → UnansweredBy p w t.is_spent t.taken t.behind.items text
 unread_as t p w text parser waiting it =
-    subst (λ (o : Option Beginning). UnreadBy p o t.is_spent t.taken t.behind.items text) waiting
-    (subst (λ (o : Option RequestParser). UnreadBy o t.waiting t.is_spent t.taken t.behind.items text) parser it)
+    subst (λ (o : Option Beginning). UnansweredBy p o t.is_spent t.taken t.behind.items text) waiting
+    (subst (λ (o : Option RequestParser). UnansweredBy o t.waiting t.is_spent t.taken t.behind.items text) parser it)
 
 some_is : {A : Type 0} (o : Option A) (x : A) → o ≡ Some x → IsSome o
 some_is {A} o x is = subst (λ (y : Option A). IsSome y) (sym is) refl
 
-unread_same : (old new : Talk) → new.taken ≡ old.taken → new.behind ≡ old.behind → unread_of new ≡ unread_of old
+unread_same : (old new : Talk) → new.taken ≡ old.taken → new.behind ≡ old.behind → unanswered_of new ≡ unanswered_of old
 unread_same old new taken behind = ap (λ (n : ℕ). n + length new.behind.items) taken ∙ ap (λ v. old.taken + length v.items) behind
 
 -- what goes by these alone
@@ -83,7 +105,7 @@ pub rest_same : (old new : Talk) (input : List ℕ) (calls : List DeskCall) → 
     → new.taken ≡ old.taken → new.behind ≡ old.behind
     → HoldsRest old input calls → HoldsRest new input calls
 rest_same old new input calls parser waiting spent taken behind (inl it) =
-    let same : unread_of new ≡ unread_of old = unread_same old new taken behind in inl (record {
+    let same : unanswered_of new ≡ unanswered_of old = unread_same old new taken behind in inl (record {
       text = it.text;
       answered = it.answered;
       holds = record {
@@ -125,8 +147,9 @@ heard_nothing old new piece input calls was is same spent taken behind (inl it) 
   text = it.text ++ piece;
   answered = reads_append input piece calls it.text it.answered;
   holds = record {
-    unread = unread_at new None old.waiting old.is_spent old.taken new.behind.items (it.text ++ piece) is same spent taken refl
-        (spent_append old.waiting old.is_spent old.taken old.behind.items new.behind.items it.text piece
+    unread = unread_at new None old.waiting old.is_spent old.taken old.behind.items (it.text ++ piece) is same spent taken
+        (ap (λ v. v.items) behind)
+        (spent_append old.waiting old.is_spent old.taken old.behind.items it.text piece
         (unread_as old None old.waiting it.text was refl it.holds.unread));
     no_more = omega (arith, it.holds.no_more, unread_same old new taken behind, length-append it.text piece);
     counted = λ some. absurd (none_not_some new.parser is some);
@@ -134,15 +157,15 @@ heard_nothing old new piece input calls was is same spent taken behind (inl it) 
 })
 
 -- .. behind what waits
-unread_more : (p : RequestParser) (b : Beginning) (spent : Bool) (taken : ℕ) (behind text more : List ℕ) → UnreadBy (Some p) (Some b) spent taken behind text
-    → UnreadBy (Some p) (Some b) spent taken (behind ++ more) (text ++ more)
+unread_more : (p : RequestParser) (b : Beginning) (spent : Bool) (taken : ℕ) (behind text more : List ℕ) → UnansweredBy (Some p) (Some b) spent taken behind text
+    → UnansweredBy (Some p) (Some b) spent taken (behind ++ more) (text ++ more)
 unread_more p (beginning.Request r) spent taken behind text more it = (it.0, begins_append text more r behind it.1)
 unread_more p (beginning.NoRequest refused) spent taken behind text more it = absurd it
 
 -- what was kept behind a talk that holds an unread text
 kept_behind : (mid new : Talk) (more text input : List ℕ) (calls : List DeskCall) → KeepsBehind mid new more → ReadsTo input calls text
-    → UnreadBy mid.parser mid.waiting mid.is_spent mid.taken (mid.behind.items ++ more) text → unread_of mid + length more ≤ length text
-    → (IsSome mid.parser → unread_of mid + length more ≡ length text) → HoldsRest new input calls
+    → UnansweredBy mid.parser mid.waiting mid.is_spent mid.taken (mid.behind.items ++ more) text → unanswered_of mid + length more ≤ length text
+    → (IsSome mid.parser → unanswered_of mid + length more ≡ length text) → HoldsRest new input calls
 kept_behind mid new more text input calls (inl k) reads unread no_more counted =
     let taken : new.taken ≡ mid.taken = ap (λ (t : Talk). t.taken) k.0 in
     let behind : length new.behind.items ≡ length mid.behind.items + length more = ap length k.1 ∙ length-append mid.behind.items more in inl (record {
@@ -158,17 +181,18 @@ kept_behind mid new more text input calls (inl k) reads unread no_more counted =
       };
     })
 kept_behind mid new more text input calls (inr k) reads unread no_more counted =
-    let taken : new.taken ≡ mid.taken = ap (λ (t : Talk). t.taken) k.0 in
-    let behind : length new.behind.items ≡ 0 = ap length k.1 in inl (record {
+    let taken : new.taken ≡ mid.taken = ap (λ (t : Talk). t.taken) k.1 in
+    let behind : length new.behind.items ≡ 0 = ap length k.2 in inl (record {
       text = text;
       answered = reads;
       holds = record {
-        unread = unread_at new None mid.waiting true mid.taken new.behind.items text (ap (λ (t : Talk). t.parser) k.0) (ap (λ (t : Talk). t.waiting) k.0)
-            (ap (λ (t : Talk). t.is_spent) k.0) taken refl
+        unread = unread_at new None mid.waiting true mid.taken new.behind.items text (ap (λ (t : Talk). t.parser) k.1) (ap (λ (t : Talk). t.waiting) k.1)
+            (ap (λ (t : Talk). t.is_spent) k.1) taken refl
             (spent_of mid.parser mid.waiting mid.is_spent mid.taken (mid.behind.items ++ more) new.behind.items text unread
+            (some_behind mid.behind.items more k.0)
             (λ some. omega (arith, counted some, length-append mid.behind.items more)));
         no_more = omega (arith, taken, behind, no_more);
-        counted = λ some. absurd (none_not_some new.parser (ap (λ (t : Talk). t.parser) k.0) some);
+        counted = λ some. absurd (none_not_some new.parser (ap (λ (t : Talk). t.parser) k.1) some);
       };
     })
 
@@ -177,10 +201,10 @@ pub heard_behind : (old new : Talk) (p : RequestParser) (b : Beginning) (piece i
     → KeepsBehind old new piece → HoldsRest old input calls → HoldsRest new (input ++ piece) calls
 heard_behind old new p b piece input calls was waits keeps (inr ended) = absurd (none_not_some old.parser ended.unread (some_is old.parser p was))
 heard_behind old new p b piece input calls was waits keeps (inl it) =
-    let count : unread_of old ≡ length it.text = it.holds.counted (some_is old.parser p was) in
+    let count : unanswered_of old ≡ length it.text = it.holds.counted (some_is old.parser p was) in
     kept_behind old new piece (it.text ++ piece) (input ++ piece) calls keeps (reads_append input piece calls it.text it.answered)
-    (subst (λ (o : Option RequestParser). UnreadBy o old.waiting old.is_spent old.taken (old.behind.items ++ piece) (it.text ++ piece)) (sym was)
-    (subst (λ (w : Option Beginning). UnreadBy (Some p) w old.is_spent old.taken (old.behind.items ++ piece) (it.text ++ piece)) (sym waits)
+    (subst (λ (o : Option RequestParser). UnansweredBy o old.waiting old.is_spent old.taken (old.behind.items ++ piece) (it.text ++ piece)) (sym was)
+    (subst (λ (w : Option Beginning). UnansweredBy (Some p) w old.is_spent old.taken (old.behind.items ++ piece) (it.text ++ piece)) (sym waits)
     (unread_more p b old.is_spent old.taken old.behind.items it.text piece (unread_as old (Some p) (Some b) it.text was waits it.holds.unread))))
     (omega (arith, count, length-append it.text piece))
     (λ some. omega (arith, count, length-append it.text piece))
@@ -197,23 +221,24 @@ heard_while_waiting old new p piece input calls was waits keeps it = go old.wait
 -- .. and the parser took the first bytes of it
 pub heard_parsed : (old mid new : Talk) (p : RequestParser) (n : ℕ) (piece input : List ℕ) (calls : List DeskCall) → old.parser ≡ Some p → old.waiting ≡ None
     → n ≤ length piece
-    → mid.taken ≡ old.taken + n → mid.behind ≡ old.behind
-    → ((text : List ℕ) → HasTaken p text → UnreadBy mid.parser mid.waiting mid.is_spent (length text + n) (drop n piece) (text ++ piece))
+    → mid.taken ≤ old.taken + n → (IsSome mid.parser → mid.taken ≡ old.taken + n) → mid.behind ≡ old.behind
+    → ((text : List ℕ) → HasTaken p text → old.taken ≡ length text
+    → UnansweredBy mid.parser mid.waiting mid.is_spent mid.taken (drop n piece) (text ++ piece))
     → KeepsBehind mid new (drop n piece) → HoldsRest old input calls → HoldsRest new (input ++ piece) calls
-heard_parsed old mid new p n piece input calls was free within taken same parsed keeps (inr ended) =
+heard_parsed old mid new p n piece input calls was free within most taken same parsed keeps (inr ended) =
     absurd (none_not_some old.parser ended.unread (some_is old.parser p was))
-heard_parsed old mid new p n piece input calls was free within taken same parsed keeps (inl it) =
-    let before : UnreadBy (Some p) None old.is_spent old.taken old.behind.items it.text = unread_as old (Some p) None it.text was free it.holds.unread in
+heard_parsed old mid new p n piece input calls was free within most taken same parsed keeps (inl it) =
+    let before : UnansweredBy (Some p) None old.is_spent old.taken old.behind.items it.text = unread_as old (Some p) None it.text was free it.holds.unread in
     let nothing : mid.behind.items ≡ [] = ap (λ v. v.items) same ∙ before.1 in
-    let count : unread_of old ≡ length it.text = it.holds.counted (some_is old.parser p was) in
+    let count : unanswered_of old ≡ length it.text = it.holds.counted (some_is old.parser p was) in
     let none : length old.behind.items ≡ 0 = ap length before.1 in
     let gone : length mid.behind.items ≡ 0 = ap length nothing in
-    let all : length it.text + n ≡ mid.taken = omega (arith, count, none, taken) in
+    let all : old.taken ≡ length it.text = omega (arith, count, none) in
     kept_behind mid new (drop n piece) (it.text ++ piece) (input ++ piece) calls keeps (reads_append input piece calls it.text it.answered)
-    (subst (λ (x : List ℕ). UnreadBy mid.parser mid.waiting mid.is_spent mid.taken (x ++ drop n piece) (it.text ++ piece)) (sym nothing)
-    (subst (λ (k : ℕ). UnreadBy mid.parser mid.waiting mid.is_spent k (drop n piece) (it.text ++ piece)) all (parsed it.text before.0)))
-    (omega (arith, all, gone, within, length-append it.text piece, length-drop n piece))
-    (λ some. omega (arith, all, gone, within, length-append it.text piece, length-drop n piece))
+    (subst (λ (x : List ℕ). UnansweredBy mid.parser mid.waiting mid.is_spent mid.taken (x ++ drop n piece) (it.text ++ piece)) (sym nothing)
+    (parsed it.text before.0 all))
+    (omega (arith, all, gone, within, most, length-append it.text piece, length-drop n piece))
+    (λ some. omega (arith, all, gone, within, taken some, length-append it.text piece, length-drop n piece))
 
 -- ---- what waits is answered
 
@@ -221,7 +246,7 @@ heard_parsed old mid new p n piece input calls was free within taken same parsed
 pub settled_on : (old new : Talk) (e : DeskCall) (input : List ℕ) (calls : List DeskCall) → old.waiting ≡ Some e.asked → e.stays ≡ true
     → MayStay e.asked e.stays
     → ((p : RequestParser) → old.parser ≡ Some p → HasTaken p [] → HoldsUnanswered new old.behind.items)
-    → (old.parser ≡ None → (new.parser ≡ None) × (new.waiting ≡ None) × (new.is_spent ≡ old.is_spent) × (unread_of new ≡ 0))
+    → (old.parser ≡ None → (new.parser ≡ None) × (new.waiting ≡ None) × (new.is_spent ≡ old.is_spent) × (new.taken ≡ 0) × (new.behind.items ≡ []))
     → HoldsRest old input calls → HoldsRest new input (e ∷ calls)
 settled_on old new e input calls waits stays last on off (inr ended) = absurd (none_not_some old.waiting ended.none (some_is old.waiting e.asked waits))
 settled_on old new e input calls waits stays last on off (inl it) =
@@ -240,7 +265,7 @@ settled_on old new e input calls waits stays last on off (inl it) =
     last_of b is it = subst (λ (x : Beginning). MayStay x true) is it
 
     go : (o : Option RequestParser) (b : Beginning) → old.parser ≡ o → e.asked ≡ b → MayStay e.asked true
-        → UnreadBy o (Some b) old.is_spent old.taken old.behind.items it.text → HoldsRest new input (e ∷ calls)
+        → UnansweredBy o (Some b) old.is_spent old.taken old.behind.items it.text → HoldsRest new input (e ∷ calls)
     go (Some p) (beginning.Request r) was is may u = inl (record {
       text = old.behind.items;
       answered = behind (beginning.Request r) old.behind.items is (last_of (beginning.Request r) is may, u.1);
@@ -251,8 +276,9 @@ settled_on old new e input calls waits stays last on off (inl it) =
       text = u.1.0;
       answered = behind (beginning.Request r) u.1.0 is (last_of (beginning.Request r) is may, u.1.1);
       holds = record {
-        unread = unread_at new None None old.is_spent new.taken new.behind.items u.1.0 (off was).0 (off was).1 (off was).2 refl refl u.0;
-        no_more = omega (arith, (off was).3);
+        unread = unread_at new None None old.is_spent 0 [] u.1.0 (off was).0 (off was).1 (off was).2 (off was).3 (off was).4
+            (u.0, u.1.2, refl, refl);
+        no_more = omega (arith, (off was).3, ap length (off was).4);
         counted = λ some. absurd (none_not_some new.parser (off was).0 some);
       };
     })
@@ -260,12 +286,12 @@ settled_on old new e input calls waits stays last on off (inl it) =
       answered = (it.text, it.answered, subst (λ (x : Beginning). EndsBehind it.text x e.stays) (sym is) u);
       unread = (off was).0;
       none = (off was).1;
-      nothing = (off was).3;
+      nothing = omega (arith, (off was).3, ap length (off was).4);
     })
 
 -- .. and the connection ends
 pub settled_end : (old new : Talk) (e : DeskCall) (input : List ℕ) (calls : List DeskCall) → old.waiting ≡ Some e.asked → e.stays ≡ false → new.parser ≡ None
-    → new.waiting ≡ None → unread_of new ≡ 0
+    → new.waiting ≡ None → unanswered_of new ≡ 0
     → HoldsRest old input calls → HoldsRest new input (e ∷ calls)
 settled_end old new e input calls waits stays off none nothing (inr ended) = absurd (none_not_some old.waiting ended.none (some_is old.waiting e.asked waits))
 settled_end old new e input calls waits stays off none nothing (inl it) = inr (record {
@@ -280,7 +306,7 @@ settled_end old new e input calls waits stays off none nothing (inl it) = inr (r
   nothing = nothing;
 })
   where
-    go : (o : Option RequestParser) (b : Beginning) → UnreadBy o (Some b) old.is_spent old.taken old.behind.items it.text → EndsBehind it.text b false
+    go : (o : Option RequestParser) (b : Beginning) → UnansweredBy o (Some b) old.is_spent old.taken old.behind.items it.text → EndsBehind it.text b false
     go (Some p) (beginning.Request r) u = (old.behind.items, u.1)
     go (Some p) (beginning.NoRequest refused) u = absurd u
     go None (beginning.Request r) u = (u.1.0, u.1.1)
@@ -316,7 +342,7 @@ in_order_with t e input calls waits last (inl it) =
     may b s asked stays it = subst (λ (x : Bool). MayStay b x) stays (subst (λ (x : Beginning). MayStay x e.stays) asked it)
 
     go : (o : Option RequestParser) (b : Beginning) (s : Bool) → e.asked ≡ b → e.stays ≡ s → MayStay e.asked e.stays
-        → UnreadBy o (Some b) t.is_spent t.taken t.behind.items it.text → AnswersInOrder input (e ∷ calls)
+        → UnansweredBy o (Some b) t.is_spent t.taken t.behind.items it.text → AnswersInOrder input (e ∷ calls)
     go (Some p) (beginning.Request r) true asked stays m u =
         goes (beginning.Request r) true t.behind.items asked stays (may (beginning.Request r) true asked stays m, u.1)
     go (Some p) (beginning.Request r) false asked stays m u = ends (beginning.Request r) false asked stays (t.behind.items, u.1)

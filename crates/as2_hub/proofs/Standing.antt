@@ -5,7 +5,7 @@ use Rattle.std.proofs.lemmas.Bool.{cases_lt}
 use Rattle.std.proofs.lemmas.Option.{slice_get_past, slice_get_read}
 use Rattle.as2_hub.specs.Calls.{DeskCall, calls_at, replies_of}
 use Rattle.as2_hub.specs.Happenings.{Happenings, Opens, Comes, Keeps, Loses, Goes, Closes, is_open_after, bytes_from, calls_of, written_to}
-use Rattle.as2_hub.specs.Talks.{HoldsRest, HoldsReply, Pends, awaiting, before_calls, talk_room, unread_of}
+use Rattle.as2_hub.specs.Talks.{HoldsRest, HoldsReply, Pends, awaiting, before_calls, talk_room, unanswered_of}
 use Rattle.as2_hub.specs.declared.hub.Hub.{Hub}
 use Rattle.as2_hub.specs.Places.{TalkStands, PlaceStands, StandAmid, StandAfter, IsVacantAfter, room_in, room_left}
 use Rattle.as2_hub.specs.declared.talk.Talk.{Talk}
@@ -345,9 +345,9 @@ if_room true most unread some = omega (arith, some)
 if_room false most unread some = absurd (omega (arith, some))
 
 pub room_within : (hub : Hub) (t : Talk) (n : ℕ) (o : Option (Option Talk)) → o ≡ Some (Some t) → 0 < n → n ≤ room_in hub o
-    → unread_of t + n ≤ hub.bounds.bytes_of_one
+    → unanswered_of t + n ≤ hub.bounds.bytes_of_one
 room_within hub t n o is some le =
     let within : n ≤ min (talk_room hub.bounds.bytes_of_one t) (room_left hub) = subst (λ (x : Option (Option Talk)). n ≤ room_in hub x) is le in
     let room : n ≤ talk_room hub.bounds.bytes_of_one t = omega (arith, within) in
-    let all = if_room (is_some t.parser && is_none t.waiting) hub.bounds.bytes_of_one (unread_of t) (omega (arith, some, room)) in
+    let all = if_room (is_some t.parser && is_none t.waiting) hub.bounds.bytes_of_one (unanswered_of t) (omega (arith, some, room)) in
     omega (arith, room, all)

@@ -5,7 +5,7 @@ use Rattle.std.proofs.lemmas.Bool.{cases_lt}
 use Rattle.std.proofs.lemmas.Option.{slice_get_past}
 use Rattle.as2_hub.specs.Calls.{DeskCall, calls_at}
 use Rattle.as2_hub.specs.Happenings.{Happenings}
-use Rattle.as2_hub.specs.Places.{DiffersByReplies, PlaceStands, StandAfter, StandAmid, WaitsOn, holds_reply_in, without_reply}
+use Rattle.as2_hub.specs.Places.{DiffersByReplies, PlaceStands, StandAfter, StandAmid, ChangesOnlyIfKept, holds_reply_in, without_reply}
 use Rattle.as2_hub.specs.Rounds.{LeavesOthers}
 use Rattle.as2_hub.specs.Talks.{Pends}
 use Rattle.as2_hub.specs.declared.desk.Reply.{Reply}
@@ -28,28 +28,28 @@ differs_same talks c = refl
 -- ---- as far as a round has ended
 
 pub record EndedBelow (k : ℕ) (is_kept : Bool) (old now : List (Option Talk)) : Type 0 where
-  pub below : (c : ℕ) → c < k → WaitsOn is_kept (slice_get old c) (slice_get now c)
+  pub below : (c : ℕ) → c < k → ChangesOnlyIfKept is_kept (slice_get old c) (slice_get now c)
   pub above : (c : ℕ) → k ≤ c → slice_get now c ≡ slice_get old c
 
 pub ended_none : (is_kept : Bool) (talks : List (Option Talk)) → EndedBelow 0 is_kept talks talks
 ended_none is_kept talks = record { below = λ c less. absurd (omega (arith, less)); above = λ c le. refl }
 
-pub ended_more : (k : ℕ) (is_kept : Bool) (old now next : List (Option Talk)) → WaitsOn is_kept (slice_get now k) (slice_get next k)
+pub ended_more : (k : ℕ) (is_kept : Bool) (old now next : List (Option Talk)) → ChangesOnlyIfKept is_kept (slice_get now k) (slice_get next k)
     → ((c : ℕ) → ¬ (c ≡ k) → slice_get next c ≡ slice_get now c) → EndedBelow k is_kept old now → EndedBelow (k + 1) is_kept old next
 ended_more k is_kept old now next here others it = record {
-  below = λ c less. elim (cases_lt c k) as (λ x. WaitsOn is_kept (slice_get old c) (slice_get next c)) [
+  below = λ c less. elim (cases_lt c k) as (λ x. ChangesOnlyIfKept is_kept (slice_get old c) (slice_get next c)) [
     | inl lt ↦ (λ off. others c (λ is. omega (arith, is, lt)) ∙ it.below c lt off)
     | inr ge ↦
         let at : k ≡ c = omega (arith, less, ge) in
-        subst (λ (x : ℕ). WaitsOn is_kept (slice_get old x) (slice_get next x)) at
-        (subst (λ (o : Option (Option Talk)). WaitsOn is_kept o (slice_get next k)) (it.above k (omega arith)) here)
+        subst (λ (x : ℕ). ChangesOnlyIfKept is_kept (slice_get old x) (slice_get next x)) at
+        (subst (λ (o : Option (Option Talk)). ChangesOnlyIfKept is_kept o (slice_get next k)) (it.above k (omega arith)) here)
   ];
   above = λ c le. others c (λ is. omega (arith, is, le)) ∙ it.above c (omega (arith, le));
 }
 
 pub ended_all : (k : ℕ) (is_kept : Bool) (old now : List (Option Talk)) → length old ≤ k → EndedBelow k is_kept old now
-    → (c : ℕ) → WaitsOn is_kept (slice_get old c) (slice_get now c)
-ended_all k is_kept old now all it c = elim (cases_lt c k) as (λ x. WaitsOn is_kept (slice_get old c) (slice_get now c)) [
+    → (c : ℕ) → ChangesOnlyIfKept is_kept (slice_get old c) (slice_get now c)
+ended_all k is_kept old now all it c = elim (cases_lt c k) as (λ x. ChangesOnlyIfKept is_kept (slice_get old c) (slice_get now c)) [
   | inl lt ↦ it.below c lt
   | inr ge ↦
       let none = slice_get_past old c (omega (arith, all, ge)) in
@@ -58,7 +58,7 @@ ended_all k is_kept old now all it c = elim (cases_lt c k) as (λ x. WaitsOn is_
 
 -- at a place
 pub waits_here : (is_kept : Bool) (t new : Talk) (o o' : Option (Option Talk)) → o ≡ Some (Some t) → o' ≡ Some (Some new)
-    → (is_kept ≡ false → new ≡ record t { reply = None }) → (t.reply ≡ None → new ≡ t) → WaitsOn is_kept o o'
+    → (is_kept ≡ false → new ≡ record t { reply = None }) → (t.reply ≡ None → new ≡ t) → ChangesOnlyIfKept is_kept o o'
 waits_here is_kept t new o o' was is loses silent off =
     is ∙ ap (λ (x : Talk). Some (Some x)) (go is_kept refl (subst (λ (x : Option (Option Talk)). (is_kept && holds_reply_in x) ≡ false) was off))
     ∙ sym (ap without_reply was)
@@ -74,7 +74,7 @@ waits_here is_kept t new o o' was is loses silent off =
     go false lost none = loses lost
     go true kept none = silent (nothing t.reply none) ∙ bare (nothing t.reply none)
 
-pub waits_vacant : (is_kept : Bool) (o : Option (Option Talk)) → o ≡ Some None → WaitsOn is_kept o o
+pub waits_vacant : (is_kept : Bool) (o : Option (Option Talk)) → o ≡ Some None → ChangesOnlyIfKept is_kept o o
 waits_vacant is_kept o is off = is ∙ sym (ap without_reply is)
 
 -- ---- a whole round
@@ -110,7 +110,7 @@ same_lists (x ∷ xs) (y ∷ ys) each = ap (λ (z : Option Talk). z ∷ xs) (ins
 
 -- where a round is kept, the places without a call are as they were
 pub left_silent : (h : Happenings) (calls : List DeskCall) (old mid new : List (Option Talk)) → StandAfter old h → StandAmid mid h calls
-    → ((c : ℕ) → calls_at c calls ≡ [] → slice_get mid c ≡ slice_get old c) → ((c : ℕ) → WaitsOn true (slice_get mid c) (slice_get new c))
+    → ((c : ℕ) → calls_at c calls ≡ [] → slice_get mid c ≡ slice_get old c) → ((c : ℕ) → ChangesOnlyIfKept true (slice_get mid c) (slice_get new c))
     → LeavesOthers true calls old new
 unfolding StandAmid
 left_silent h calls old mid new before amid others waits = λ c none.
@@ -118,7 +118,7 @@ left_silent h calls old mid new before amid others waits = λ c none.
 
 -- where it is lost, all places are
 pub left_all : (h : Happenings) (calls : List DeskCall) (old mid new : List (Option Talk)) → StandAfter old h
-    → DiffersByReplies old mid → ((c : ℕ) → WaitsOn false (slice_get mid c) (slice_get new c)) → LeavesOthers false calls old new
+    → DiffersByReplies old mid → ((c : ℕ) → ChangesOnlyIfKept false (slice_get mid c) (slice_get new c)) → LeavesOthers false calls old new
 unfolding StandAmid
 left_all h calls old mid new before differs waits =
     same_lists new old (λ c. waits c refl ∙ differs c ∙ bare_place c h (slice_get old c) (before c))

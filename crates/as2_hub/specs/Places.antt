@@ -2,7 +2,7 @@
 use Rattle.std.specs.Prelude.{◌≡◌, ℕ, ◌-◌, ◌&&◌, Bool, true, false, min, drop, is_some, List, [], ◌∷◌, ◌++◌, Option, Some, None, sum_by, slice_get, slice_set}
 use Rattle.as2_hub.specs.Calls.{DeskCall, calls_at, replies_of}
 use Rattle.as2_hub.specs.Happenings.{Happenings, Keeps, Loses, is_open_after, bytes_from, calls_of, written_to}
-use Rattle.as2_hub.specs.Talks.{HoldsRest, IsFresh, Pends, before_calls, unread_of, talk_room, is_ready, is_done}
+use Rattle.as2_hub.specs.Talks.{HoldsRest, IsFresh, Pends, before_calls, unanswered_of, talk_room, is_ready, is_done}
 use Rattle.as2_hub.specs.declared.hub.Hub.{Hub}
 use Rattle.as2_hub.specs.declared.talk.Talk.{Talk}
 
@@ -29,13 +29,13 @@ output_at (Some None) = []
 output_at (Some (Some t)) = t.output.items
 
 -- how many bytes of whoever has it aren't answered
-abbrev pub place_unread : Option Talk → ℕ
-place_unread None = 0
-place_unread (Some t) = unread_of t
+abbrev pub place_unanswered : Option Talk → ℕ
+place_unanswered None = 0
+place_unanswered (Some t) = unanswered_of t
 
 -- how many bytes more may be read of all
 abbrev pub room_left : Hub → ℕ
-room_left hub = hub.bounds.bytes_of_all - sum_by place_unread (places hub)
+room_left hub = hub.bounds.bytes_of_all - sum_by place_unanswered (places hub)
 
 -- how many bytes may be read next of whoever has it
 abbrev pub room_in : Hub → Option (Option Talk) → ℕ
@@ -79,8 +79,8 @@ DiffersByReplies old new = (c : ℕ) → without_reply (slice_get new c) ≡ wit
 
 -- The round has ended, with this verdict, and at this place nothing is changed but that no reply is held, unless the round is kept and one
 -- was.
-abbrev pub WaitsOn : Bool → Option (Option Talk) → Option (Option Talk) → Type 0
-WaitsOn is_kept old new = (is_kept && holds_reply_in old) ≡ false → new ≡ without_reply old
+abbrev pub ChangesOnlyIfKept : Bool → Option (Option Talk) → Option (Option Talk) → Type 0
+ChangesOnlyIfKept is_kept old new = (is_kept && holds_reply_in old) ≡ false → new ≡ without_reply old
 
 -- Within a round of these calls: what is kept of the connection at that place is the rest of its input, with what is asked, and of the
 -- replies; and no more than one of the calls was made for it.

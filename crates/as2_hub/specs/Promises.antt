@@ -1,16 +1,16 @@
 -- What is promised of many connections over one desk.
 use Rattle.std.specs.Prelude.{◌≡◌, ℕ, true, false, List, [], ◌∷◌, ◌++◌, slice_get}
-use Rattle.as2_hub.specs.Bounded.{IsWithinBounds, KeepsBounds}
+use Rattle.as2_hub.specs.Bounded.{KeepsBounds}
 use Rattle.as2_hub.specs.Calls.{AnswersInOrder, replies_of}
 use Rattle.as2_hub.specs.Conduct.{Conduct, Round}
 use Rattle.as2_hub.specs.Happenings.{Happenings, Opens, Comes, Keeps, Loses, Goes, Closes, is_open_after, bytes_from, calls_of, written_to}
-use Rattle.as2_hub.specs.Inputs.{ChangesPlaces, HappensBy}
+use Rattle.as2_hub.specs.Inputs.{ChangesPlaces, HappensBy, fits_in}
 use Rattle.as2_hub.specs.Places.{StandAfter, output_at, places}
 use Rattle.as2_hub.specs.Rounds.{AnswerWhatWaited, Scene}
 use Rattle.as2_hub.specs.declared.input.Input.{Input}
 
--- What happened leads the desk from the first state to the last: the rounds that are kept one after the other; one that is lost leaves what
--- the desk keeps as it was.
+-- What happened leads the desk from the first state to the last: the rounds that are kept one after the other; one that is lost, as it
+-- might be from its begin, leaves what the desk keeps as it was.
 abbrev pub Leads : {S : Type 0} → Conduct S → S → Happenings → S → Type 0
 Leads D old [] new = new ≡ old
 Leads {S} D old (Keeps round ∷ h) new = (mid : S) × Leads D old h mid × Round D true mid round new
@@ -24,6 +24,7 @@ Leads D old (Closes c ∷ h) new = Leads D old h new
 
 -- by that input this happened more, whatever happened before
 pub record Takes {S : Type 0} (D : Conduct S) (i : Input) (old : Scene S) (more : Happenings) (new : Scene S) : Type 0 where
+  pub fits : fits_in old.hub i ≡ true
   pub by_input : HappensBy old.hub i more
   pub leads : Leads D old.desk more new.desk
   pub answer : (h : Happenings) → StandAfter (places old.hub) h → AnswerWhatWaited h → AnswerWhatWaited (more ++ h)
@@ -45,14 +46,15 @@ pub record Promise (c : ℕ) (h : Happenings) (unwritten : List ℕ) : Type 0 wh
   pub answered : AnswersInOrder (bytes_from c h) (calls_of c h)
   pub written : replies_of (calls_of c h) ≡ written_to c h ++ unwritten
 
--- By these inputs something happened that leads the desk so, whose rounds answer what waited and nothing else; each open connection has
--- what is promised, and what is kept of it is the rest; and no more is held than the bounds say, which are as they were.
+-- By these inputs something happened that leads the desk so. Whatever happened before: the rounds answer what waited and nothing else; each
+-- open connection has what is promised, and what is kept of it is the rest. The bounds are as they were, and no more bytes that aren't
+-- answered are counted than they say.
 pub record KeepsPromises {S : Type 0} (D : Conduct S) (inputs : List Input) (old new : Scene S) : Type 0 where
   pub happenings : Happenings
   pub plays : PlaysInputs D inputs old happenings new
   pub leads : Leads D old.desk happenings new.desk
-  pub answer : AnswerWhatWaited happenings
-  pub promised : (c : ℕ) → is_open_after c happenings ≡ true → Promise c happenings (output_at (slice_get (places new.hub) c))
-  pub stands : StandAfter (places new.hub) happenings
-  pub bounds : new.hub.bounds ≡ old.hub.bounds
-  pub within : IsWithinBounds new.hub
+  pub answer : (h : Happenings) → StandAfter (places old.hub) h → AnswerWhatWaited h → AnswerWhatWaited (happenings ++ h)
+  pub stands : (h : Happenings) → StandAfter (places old.hub) h → StandAfter (places new.hub) (happenings ++ h)
+  pub promised : (h : Happenings) → StandAfter (places old.hub) h → (c : ℕ) → is_open_after c (happenings ++ h) ≡ true
+      → Promise c (happenings ++ h) (output_at (slice_get (places new.hub) c))
+  pub bounded : KeepsBounds old.hub new.hub

@@ -11,26 +11,26 @@ use Rattle.as2_hub.specs.declared.desk.Reply.{Reply}
 use Rattle.as2_hub.specs.declared.talk.Talk.{Talk}
 
 -- how many bytes came that aren't answered
-abbrev pub unread_of : Talk → ℕ
-unread_of t = t.taken + length t.behind.items
+abbrev pub unanswered_of : Talk → ℕ
+unanswered_of t = t.taken + length t.behind.items
 
 -- Of a text that isn't answered: all of it is in the parser, and is less than a request; or it begins with what waits, and the rest
--- came behind that. Without a parser nothing more is read: no request begins there, or memory wasn't there; and of a request that waits no
--- more bytes came than are counted.
-abbrev pub UnreadBy : Option RequestParser → Option Beginning → Bool → ℕ → List ℕ → List ℕ → Type 0
-UnreadBy (Some p) None spent taken behind text = HasTaken p text × (behind ≡ [])
-UnreadBy (Some p) (Some (beginning.Request r)) spent taken behind text = HasTaken p [] × BeginsRequest text r behind
-UnreadBy (Some p) (Some (beginning.NoRequest refused)) spent taken behind text = ⊥
-UnreadBy None (Some (beginning.Request r)) spent taken behind text =
-    IsTrue spent × ((rest : List ℕ) × BeginsRequest text r rest × (length text ≤ taken + length rest))
-UnreadBy None (Some (beginning.NoRequest refused)) spent taken behind text = BeginsNoRequest text refused
-UnreadBy None None spent taken behind text = IsTrue spent
+-- came behind that. Without a parser nothing more is read: no request begins there; or the connection was given up, as where memory is
+-- wanting, and then some bytes came that aren't kept. Of a request that waits no more bytes came than are counted.
+abbrev pub UnansweredBy : Option RequestParser → Option Beginning → Bool → ℕ → List ℕ → List ℕ → Type 0
+UnansweredBy (Some p) None spent taken behind text = HasTaken p text × (behind ≡ [])
+UnansweredBy (Some p) (Some (beginning.Request r)) spent taken behind text = HasTaken p [] × BeginsRequest text r behind
+UnansweredBy (Some p) (Some (beginning.NoRequest refused)) spent taken behind text = ⊥
+UnansweredBy None (Some (beginning.Request r)) spent taken behind text =
+    IsTrue spent × ((rest : List ℕ) × BeginsRequest text r rest × ¬ (rest ≡ []) × (length text ≤ taken + length rest))
+UnansweredBy None (Some (beginning.NoRequest refused)) spent taken behind text = BeginsNoRequest text refused
+UnansweredBy None None spent taken behind text = IsTrue spent × ¬ (text ≡ []) × (taken ≡ 0) × (behind ≡ [])
 
 -- the text isn't answered; no more bytes are counted than it has, and each of them while more is read
 pub record HoldsUnanswered (t : Talk) (text : List ℕ) : Type 0 where
-  pub unread : UnreadBy t.parser t.waiting t.is_spent t.taken t.behind.items text
-  pub no_more : unread_of t ≤ length text
-  pub counted : IsSome t.parser → unread_of t ≡ length text
+  pub unread : UnansweredBy t.parser t.waiting t.is_spent t.taken t.behind.items text
+  pub no_more : unanswered_of t ≤ length text
+  pub counted : IsSome t.parser → unanswered_of t ≡ length text
 
 -- behind these calls the input goes on with a text that isn't answered
 pub record HoldsUnread (t : Talk) (input : List ℕ) (calls : List DeskCall) : Type 0 where
@@ -43,7 +43,7 @@ pub record HasEnded (t : Talk) (input : List ℕ) (calls : List DeskCall) : Type
   pub answered : ReadsToEnd input calls
   pub unread : t.parser ≡ None
   pub none : t.waiting ≡ None
-  pub nothing : unread_of t ≡ 0
+  pub nothing : unanswered_of t ≡ 0
 
 -- what is kept of a connection from which this input came, and to which these calls replied
 abbrev pub HoldsRest : Talk → List ℕ → List DeskCall → Type 0
@@ -53,23 +53,24 @@ HoldsRest t input calls = HoldsUnread t input calls ⊎ HasEnded t input calls
 pub record IsFresh (t : Talk) : Type 0 where
   pub reading : IsSome t.parser
   pub free : t.waiting ≡ None
-  pub unread : unread_of t ≡ 0
+  pub unspent : t.is_spent ≡ false
+  pub none : unanswered_of t ≡ 0
   pub silent : t.reply ≡ None
   pub empty : t.output.items ≡ []
 
 -- how many bytes may be read next, where one connection may have so many that aren't answered: none while a request waits
 abbrev pub talk_room : ℕ → Talk → ℕ
-talk_room most t = if is_some t.parser && is_none t.waiting then most - unread_of t else 0
+talk_room most t = if is_some t.parser && is_none t.waiting then most - unanswered_of t else 0
 
 -- nothing more is read, and nothing is to be written
 abbrev pub is_done : Talk → Bool
 is_done t = is_none t.parser && is_none t.waiting && length t.output.items == 0
 
--- bytes are kept behind what waits; or memory for them isn't there, and nothing more is read
+-- bytes are kept behind what waits; or some aren't, since memory for them isn't there, and the connection is given up
 abbrev pub KeepsBehind : Talk → Talk → List ℕ → Type 0
 KeepsBehind old new bytes =
     ((new ≡ record old { behind = new.behind }) × (new.behind.items ≡ old.behind.items ++ bytes))
-    ⊎ ((new ≡ record old { parser = None; behind = new.behind; is_spent = true }) × (new.behind.items ≡ []))
+    ⊎ (¬ (bytes ≡ []) × (new ≡ record old { parser = None; behind = new.behind; is_spent = true }) × (new.behind.items ≡ []))
 
 -- ---- a round
 

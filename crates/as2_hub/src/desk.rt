@@ -10,7 +10,7 @@ use as2_messages::{Refused, Request};
 /// A reply, and what comes behind it.
 #[derive(Drop)]
 pub struct Reply {
-    /// Its bytes. None where memory for them wasn't there, and then the connection ends.
+    /// Its bytes.
     pub text: Vec<u8>,
     /// The connection stays open, and its next request is read.
     pub stays: bool,
@@ -56,6 +56,7 @@ pub trait Desk {
     /// Ends the round, and says whether it is kept. One that is lost, as it may have been from its begin, leaves what the
     /// desk keeps as it was.
     fn settle(&mut self) -> bool
+        ensures rests { conduct.at_rest self.new }
         ensures kept { IsTrue result → conduct.settles self.old self.new }
         ensures may_lose { result ≡ false → conduct.may_lose self.old ≡ true }
         ensures keeps { result ≡ false → conduct.kept self.new ≡ conduct.kept self.old };

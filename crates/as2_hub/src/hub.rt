@@ -1,11 +1,11 @@
 //! Many connections, each at its place.
 ghost use Rattle.std.specs.Prelude.{◌≡◌, ◌-◌, ◌^◌, ◌<◌, ◌≤◌, ℕ, List, [], ◌∷◌, ◌++◌, length, min, take, replicate, position, is_none, slice_get, slice_set, None, false, IfOk, IsTrue};
-ghost use Rattle.as2_hub.specs.Bounded.{KeepsBounds, ReadsNoMore};
+ghost use Rattle.as2_hub.specs.Bounded.{HoldsNoMore, IsWithinBounds, KeepsBounds};
 ghost use Rattle.as2_hub.specs.Calls.{DeskCall};
 ghost use Rattle.as2_hub.specs.Happenings.{Happenings, Opens, Comes, Keeps, Goes, Closes};
 ghost use Rattle.as2_hub.specs.Inputs.{ChangesPlaces, StopsBefore, comes_if, fits_in, piece_fits};
-ghost use Rattle.as2_hub.specs.Places.{OpensTalk, PlaceStands, SetsOutput, SetsTalk, StandAmid, StandAfter, WaitsOn, is_done_in, is_reading_in, is_ready_in, is_taken, is_vacant, output_at, place_unread, places, room_in, room_left};
-ghost use Rattle.as2_hub.specs.Promises.{KeepsPromises, PlaysInputs, Takes};
+ghost use Rattle.as2_hub.specs.Places.{OpensTalk, PlaceStands, SetsOutput, SetsTalk, StandAmid, StandAfter, ChangesOnlyIfKept, is_done_in, is_reading_in, is_ready_in, is_taken, is_vacant, output_at, place_unanswered, places, room_in, room_left};
+ghost use Rattle.as2_hub.specs.Promises.{KeepsPromises, Takes};
 ghost use Rattle.as2_hub.specs.Rounds.{AsksPlace, AsksPlaces, SettlesRound, scene};
 
 use crate::bounds::Bounds;
@@ -28,6 +28,8 @@ impl Hub {
     pub fn new(alloc: Global, bounds: Bounds) -> Result<Hub, Memory>
         ensures vacant { IfOk result (λ hub. places hub ≡ replicate bounds.connections None) }
         ensures bounds { IfOk result (λ hub. hub.bounds ≡ bounds) }
+        ensures stands { IfOk result (λ hub. StandAfter (places hub) []) }
+        ensures within { IfOk result IsWithinBounds }
     {
         let mut talks = Vec::new(alloc);
         for _ in 0..bounds.connections {
@@ -93,7 +95,7 @@ impl Hub {
     {
         let mut left = self.bounds.bytes_of_all;
         for talk in &self.talks {
-            left = left.saturating_sub(unread(talk));
+            left = left.saturating_sub(unanswered(talk));
         }
         left
     }
@@ -175,7 +177,7 @@ impl Hub {
     #[tactic(auto, using(crate::proofs::Within::less_same))]
     fn ask<D: Desk>(&mut self, desk: &mut D, at: usize) -> bool
         ensures asks { AsksPlace D.conduct at (scene desk.old self.old) (scene desk.new self.new) result }
-        ensures unread { ReadsNoMore (places self.old) (places self.new) }
+        ensures unread { HoldsNoMore (places self.old) (places self.new) }
         ensures bounds { self.new.bounds ≡ self.old.bounds }
     {
         if at >= self.talks.len() {
@@ -190,7 +192,7 @@ impl Hub {
     /// Has the desk answer what waits at each of these places, up to the bound.
     fn ask_all<D: Desk>(&mut self, desk: &mut D, ready: &[usize])
         ensures asks { AsksPlaces D.conduct ready.now (scene desk.old self.old) (scene desk.new self.new) }
-        ensures unread { ReadsNoMore (places self.old) (places self.new) }
+        ensures unread { HoldsNoMore (places self.old) (places self.new) }
         ensures bounds { self.new.bounds ≡ self.old.bounds }
     {
         let mut left = self.bounds.requests;
@@ -209,9 +211,9 @@ impl Hub {
         ensures kept { IsTrue is_kept → (h : Happenings) (round : List DeskCall)
             → PlaceStands at h round (slice_get (places self.old) at)
             → PlaceStands at (Keeps round ∷ h) [] (slice_get (places self.new) at) }
-        ensures waits { WaitsOn is_kept (slice_get (places self.old) at) (slice_get (places self.new) at) }
+        ensures waits { ChangesOnlyIfKept is_kept (slice_get (places self.old) at) (slice_get (places self.new) at) }
         ensures others { (c : ℕ) → ¬ (c ≡ at) → slice_get (places self.new) c ≡ slice_get (places self.old) c }
-        ensures unread { ReadsNoMore (places self.old) (places self.new) }
+        ensures unread { HoldsNoMore (places self.old) (places self.new) }
         ensures bounds { self.new.bounds ≡ self.old.bounds }
     {
         let Some(talk) = &mut self.talks[at] else {
@@ -224,8 +226,8 @@ impl Hub {
     fn settle_all(&mut self, is_kept: bool)
         ensures kept { IsTrue is_kept → (h : Happenings) (round : List DeskCall) → StandAmid (places self.old) h round
             → StandAfter (places self.new) (Keeps round ∷ h) }
-        ensures waits { (c : ℕ) → WaitsOn is_kept (slice_get (places self.old) c) (slice_get (places self.new) c) }
-        ensures unread { ReadsNoMore (places self.old) (places self.new) }
+        ensures waits { (c : ℕ) → ChangesOnlyIfKept is_kept (slice_get (places self.old) c) (slice_get (places self.new) c) }
+        ensures unread { HoldsNoMore (places self.old) (places self.new) }
         ensures bounds { self.new.bounds ≡ self.old.bounds }
     {
         for at in 0..self.talks.len() {
@@ -314,12 +316,10 @@ impl Hub {
     pub fn play<D: Desk>(&mut self, desk: &mut D, inputs: &[Input]) -> usize
         ensures count { result ≤ length inputs.now }
         ensures stops { StopsBefore self.new (slice_get inputs.now result) }
-        ensures plays { (h : Happenings)
-            × PlaysInputs D.conduct (take result inputs.now) (scene desk.old self.old) h (scene desk.new self.new) }
-        // Of a new hub, each connection is told what the rounds say that were kept, these alone are what the desk went
-        // through, and no more is held than the bounds say.
-        ensures promised { places self.old ≡ replicate self.old.bounds.connections None
-            → KeepsPromises D.conduct (take result inputs.now) (scene desk.old self.old) (scene desk.new self.new) }
+        // Each connection is told what the rounds say that were kept; they led the desk, in this order, and a round that was
+        // lost left what it keeps as it was.
+        ensures promised { KeepsPromises D.conduct (take result inputs.now) (scene desk.old self.old)
+            (scene desk.new self.new) }
     {
         let mut taken = 0;
         for input in inputs {
@@ -333,11 +333,11 @@ impl Hub {
 }
 
 /// How many bytes of a connection came that aren't answered.
-fn unread(talk: &Option<Talk>) -> usize
-    ensures { result ≡ min (place_unread talk.now) (2 ^ 64 - 1) }
+fn unanswered(talk: &Option<Talk>) -> usize
+    ensures { result ≡ min (place_unanswered talk.now) (2 ^ 64 - 1) }
 {
     match talk {
-        Some(talk) => talk.unread(),
+        Some(talk) => talk.unanswered(),
         None => 0,
     }
 }

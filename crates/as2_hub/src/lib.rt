@@ -7,6 +7,7 @@ mod bounds;
 mod desk;
 mod hub;
 mod input;
+mod laws;
 mod talk;
 
 pub use beginning::Beginning;
@@ -14,6 +15,7 @@ pub use bounds::Bounds;
 pub use desk::{Desk, Replied, Reply, Resolved};
 pub use hub::Hub;
 pub use input::Input;
+pub use laws::standing_is_promised;
 
 #[cfg(test)]
 mod tests;

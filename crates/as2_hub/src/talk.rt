@@ -1,9 +1,9 @@
 //! One connection, without IO: its bytes come in any pieces, what they begin with waits for its round, and then the
 //! reply to be written.
-ghost use Rattle.std.specs.Prelude.{◌≡◌, ◌+◌, ◌-◌, ◌^◌, ◌<◌, ◌≤◌, ◌++◌, List, ℕ, false, [], ◌∷◌, length, drop, min, Some, None, is_some, IsTrue};
+ghost use Rattle.std.specs.Prelude.{◌≡◌, ◌+◌, ◌-◌, ◌^◌, ◌<◌, ◌≤◌, ◌++◌, List, ℕ, false, [], ◌∷◌, length, drop, min, Some, None, is_some, IsSome, IsTrue};
 ghost use Rattle.as2_messages.specs.Parsing.{HasTaken};
 ghost use Rattle.as2_hub.specs.Calls.{DeskCall};
-ghost use Rattle.as2_hub.specs.Talks.{AsksDesk, HoldsReply, HoldsRest, HoldsUnanswered, IsFresh, KeepsBehind, UnreadBy, awaiting, is_done, is_ready, talk_room, unread_of};
+ghost use Rattle.as2_hub.specs.Talks.{AsksDesk, HoldsReply, HoldsRest, HoldsUnanswered, IsFresh, KeepsBehind, UnansweredBy, awaiting, is_done, is_ready, talk_room, unanswered_of};
 ghost use Rattle.as2_messages.specs.declared.parser.RequestParser.{RequestParser as TheParser};
 
 use crate::beginning::Beginning;
@@ -51,15 +51,18 @@ impl Talk {
         }
     }
 
-    /// Has the parser take bytes, and answers how many of them it took.
+    /// Has the parser take bytes, and answers how many of them it took. Where memory isn't there, the connection is given up.
     fn parse(&mut self, parser: RequestParser, bytes: &[u8]) -> usize
+        requires some { 0 < length bytes.now }
         requires ended { self.old.parser ≡ None }
         requires free { self.old.waiting ≡ None }
         requires fits { self.old.taken + length bytes.now < 2 ^ 64 }
-        ensures unread { (text : List ℕ) → HasTaken parser text → UnreadBy self.new.parser self.new.waiting
-            self.new.is_spent (length text + result) (drop result bytes.now) (text ++ bytes.now) }
+        ensures unread { (text : List ℕ) → HasTaken parser text → self.old.taken ≡ length text
+            → UnansweredBy self.new.parser self.new.waiting self.new.is_spent self.new.taken (drop result bytes.now)
+            (text ++ bytes.now) }
         ensures within { result ≤ length bytes.now }
-        ensures taken { self.new.taken ≡ self.old.taken + result }
+        ensures no_more { self.new.taken ≤ self.old.taken + result }
+        ensures taken { IsSome self.new.parser → self.new.taken ≡ self.old.taken + result }
         ensures others { self.new ≡ record self.old {
           parser = self.new.parser;
           waiting = self.new.waiting;
@@ -84,17 +87,21 @@ impl Talk {
             }
             Err(Memory) => {
                 self.is_spent = true;
-                bytes.len()
+                self.taken = 0;
+                return bytes.len();
             }
         };
         self.taken += used;
         used
     }
 
-    /// Keeps bytes that came behind what waits. Where memory for them isn't there, nothing more is read.
+    /// Keeps bytes that came behind what waits. Where memory for them isn't there, the connection is given up.
     fn keep(&mut self, bytes: &[u8])
         ensures { KeepsBehind self.old self.new bytes.now }
     {
+        if bytes.is_empty() {
+            return;
+        }
         if self.behind.extend_from_slice(bytes).is_err() {
             self.parser = None;
             self.behind = Vec::new(self.alloc);
@@ -104,13 +111,16 @@ impl Talk {
 
     /// Takes a piece that came. Nothing is kept of it where nothing more is read.
     pub fn hear(&mut self, piece: &[u8])
-        requires fits { unread_of self.old + length piece.now < 2 ^ 64 }
+        requires fits { unanswered_of self.old + length piece.now < 2 ^ 64 }
         ensures rest { (input : List ℕ) (calls : List DeskCall) → HoldsRest self.old input calls
             → HoldsRest self.new (input ++ piece.now) calls }
-        ensures unread { unread_of self.new ≤ unread_of self.old + length piece.now }
+        ensures unread { unanswered_of self.new ≤ unanswered_of self.old + length piece.now }
         ensures same_reply { self.new.reply ≡ self.old.reply }
         ensures same_output { self.new.output ≡ self.old.output }
     {
+        if piece.is_empty() {
+            return;
+        }
         let Some(parser) = self.parser.take() else {
             return;
         };
@@ -140,23 +150,26 @@ impl Talk {
         true
     }
 
-    /// Reads on in what came behind a request that was answered.
+    /// Reads on in what came behind a request that was answered. Where nothing came, nothing is asked of the parser.
     fn go_on(&mut self)
         requires free { self.old.waiting ≡ None }
         ensures reads { (p : TheParser) → self.old.parser ≡ Some p → HasTaken p []
             → HoldsUnanswered self.new self.old.behind.items }
         ensures ended { self.old.parser ≡ None → self.new ≡ record self.old { behind = self.new.behind; taken = 0 } }
-        ensures nothing { self.old.parser ≡ None → unread_of self.new ≡ 0 }
-        ensures unread { unread_of self.new ≤ length self.old.behind.items }
+        ensures nothing { self.old.parser ≡ None → self.new.behind.items ≡ [] }
+        ensures unread { unanswered_of self.new ≤ length self.old.behind.items }
         ensures same_reply { self.new.reply ≡ self.old.reply }
         ensures same_output { self.new.output ≡ self.old.output }
     {
         self.taken = 0;
+        let behind = mem::replace(&mut self.behind, Vec::new(self.alloc));
+        if behind.is_empty() {
+            return;
+        }
         let Some(parser) = self.parser.take() else {
-            self.behind = Vec::new(self.alloc);
             return;
         };
-        let mut behind = mem::replace(&mut self.behind, Vec::new(self.alloc));
+        let mut behind = behind;
         let used = self.parse(parser, &behind);
         if used < behind.len() {
             behind.drain(..used);
@@ -166,7 +179,7 @@ impl Talk {
 
     /// Nothing more is read.
     fn end(&mut self)
-        ensures unread { unread_of self.new ≡ 0 }
+        ensures unread { unanswered_of self.new ≡ 0 }
         ensures others { self.new ≡ record self.old { parser = None; behind = self.new.behind; taken = 0 } }
     {
         self.parser = None;
@@ -182,7 +195,7 @@ impl Talk {
         ensures lost { is_kept ≡ false → self.new ≡ record self.old { reply = None } }
         ensures silent { self.old.reply ≡ None → self.new ≡ self.old }
         ensures over { self.new.reply ≡ None }
-        ensures unread { unread_of self.new ≤ unread_of self.old }
+        ensures unread { unanswered_of self.new ≤ unanswered_of self.old }
     {
         let Some(reply) = self.reply.take() else {
             return;
@@ -207,7 +220,7 @@ impl Talk {
         if self.parser.is_none() || self.waiting.is_some() {
             return 0;
         }
-        bytes_of_one.saturating_sub(self.unread())
+        bytes_of_one.saturating_sub(self.unanswered())
     }
 
     /// More is read of it.
@@ -218,8 +231,8 @@ impl Talk {
     }
 
     /// How many bytes came that aren't answered.
-    pub fn unread(&self) -> usize
-        ensures { result ≡ min (unread_of self.now) (2 ^ 64 - 1) }
+    pub fn unanswered(&self) -> usize
+        ensures { result ≡ min (unanswered_of self.now) (2 ^ 64 - 1) }
     {
         self.taken.saturating_add(self.behind.len())
     }

@@ -1,9 +1,9 @@
 use Rattle.std.proofs.Common.{◌∙◌, rules, ◌≡◌, ◌<◌, length, Some, refl, sym, ap, arith}
 use Rattle.std.specs.Prelude.{slice_get}
 use Rattle.std.proofs.lemmas.Option.{slice_get_past}
-use Rattle.as2_hub.specs.Bounded.{unread_in}
+use Rattle.as2_hub.specs.Bounded.{unanswered_in}
 use Rattle.as2_hub.specs.Places.{is_ready_in}
-use Rattle.as2_hub.specs.Talks.{unread_of}
+use Rattle.as2_hub.specs.Talks.{unanswered_of}
 use Rattle.as2_hub.specs.declared.talk.Talk.{Talk}
 use Rattle.as2_hub.proofs.Asking.{asks_at, asks_nobody, unread_asked}
 use Rattle.as2_hub.proofs.Standing.{nobody_there, put_back, there}
@@ -40,7 +40,7 @@ returns-clause-unread g c =
     let talks = c.args.self.now.talks.items in
     let within : c.args.at < length talks = omega (arith, c.args.self.now.talks.ok.0) in
     let here = there talks c.args.at c.index_mut.result.now c.in-Some.talk within c.index_mut.ensures.value c.in-Some.is in
-    let was : unread_in (slice_get talks c.args.at) ≡ unread_of c.in-Some.talk = ap unread_in here in
-    let same : unread_of c.ask.new.self ≡ unread_of c.in-Some.talk =
+    let was : unanswered_in (slice_get talks c.args.at) ≡ unanswered_of c.in-Some.talk = ap unanswered_in here in
+    let same : unanswered_of c.ask.new.self ≡ unanswered_of c.in-Some.talk =
     unread_asked g.D.Desk.conduct c.args.desk.now c.ask.new.desk c.in-Some.talk c.ask.new.self c.ask.result c.ask.ensures in
     less_set talks c.args.at (Some c.ask.new.self) within (omega (arith, was, same))

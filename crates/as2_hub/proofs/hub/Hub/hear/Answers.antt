@@ -1,7 +1,7 @@
 use Rattle.std.proofs.Common.{◌<◌, ◌≤◌, ◌+◌, length, take, refl, ap, arith, length-take}
 use Rattle.std.specs.Prelude.{slice_get}
 use Rattle.as2_hub.specs.Places.{room_in}
-use Rattle.as2_hub.specs.Talks.{unread_of}
+use Rattle.as2_hub.specs.Talks.{unanswered_of}
 use Rattle.as2_hub.proofs.Standing.{heard, room_within, there, within_of}
 use Rattle.as2_hub.proofs.Within.{bounded_more}
 use Rattle.as2_hub.proofs.hub.Hub.hear.Goals as goal
@@ -14,7 +14,7 @@ hear-requires c =
     let n = c.min-room.result in
     let within : at < length talks = within_of talks at (λ none. absurd (omega (arith, c.room.ensures, ap (room_in hub) none))) in
     let here = there talks at c.index_mut.result.now c.in-Some.talk within c.index_mut.ensures.value c.in-Some.is in
-    let fits : unread_of c.in-Some.talk + n ≤ hub.bounds.bytes_of_one =
+    let fits : unanswered_of c.in-Some.talk + n ≤ hub.bounds.bytes_of_one =
     room_within hub c.in-Some.talk n (slice_get talks at) here (omega arith) (omega (arith, c.room.ensures)) in
     record { fits = omega (arith, fits, length-take n c.args.piece.now) }
 
@@ -40,5 +40,5 @@ returns-clause-bounded c =
     let n = c.min-room.result in
     let within : at < length talks = within_of talks at (λ none. absurd (omega (arith, c.room.ensures, ap (room_in hub) none))) in
     let here = there talks at c.index_mut.result.now c.in-Some.talk within c.index_mut.ensures.value c.in-Some.is in
-    let more : unread_of c.hear.new.self ≤ unread_of c.in-Some.talk + n = omega (arith, c.hear.ensures.unread, length-take n c.args.piece.now) in
+    let more : unanswered_of c.hear.new.self ≤ unanswered_of c.in-Some.talk + n = omega (arith, c.hear.ensures.unread, length-take n c.args.piece.now) in
     bounded_more hub _ at n c.in-Some.talk c.hear.new.self within here refl refl more (omega (arith, c.room.ensures)) (omega arith)

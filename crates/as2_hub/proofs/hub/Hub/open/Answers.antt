@@ -15,4 +15,4 @@ pub returns-clause-bounded : goal.returns-clause-bounded
 returns-clause-bounded c =
     let talks = c.args.self.now.talks.items in
     bounded_less c.args.self.now _ refl
-    (less_set talks c.args.at (Some c.new.result) (omega (arith, c.args.self.now.talks.ok.0)) (omega (arith, c.new.ensures.fresh.unread)))
+    (less_set talks c.args.at (Some c.new.result) (omega (arith, c.args.self.now.talks.ok.0)) (omega (arith, c.new.ensures.fresh.none)))

@@ -31,14 +31,14 @@ loop-input-preserved g c =
     )
 
 pub returns-then-not-take-clause-promised : goal.returns-then-not-take-clause-promised
-returns-then-not-take-clause-promised g c = λ empty.
+returns-then-not-take-clause-promised g c =
     let inputs = c.args.inputs.now in
     let so_far = c.loop-input.invariant.1 in
     let same = c.if-not-take.ensures.none refl in
     let there : scene c.loop-input.desk c.loop-input.self ≡ scene c.take.new.desk c.take.new.self =
     ap (λ z. scene z c.loop-input.self) (sym same.0) ∙ ap (λ (z : Hub). scene c.take.new.desk z) (sym same.1) in
     kept_promises g.D.Desk.conduct (take c.loop-input.taken inputs) (scene c.args.desk.now c.args.self.now)
-    (scene c.take.new.desk c.take.new.self) so_far.0 empty
+    (scene c.take.new.desk c.take.new.self) so_far.0
     (subst (λ (n : ℕ). PlaysInputs g.D.Desk.conduct (take n inputs) (scene c.args.desk.now c.args.self.now) so_far.0
     (scene c.take.new.desk c.take.new.self)) (sym c.loop-input.invariant.0)
     (subst (λ z. PlaysInputs g.D.Desk.conduct (take c.loop-input.input-index inputs) (scene c.args.desk.now c.args.self.now) so_far.0 z) there so_far.1))
@@ -49,10 +49,10 @@ returns-clause-stops g c =
     (sym (slice_get_past c.args.inputs.now c.loop-input.taken (omega (arith, c.loop-input.invariant.0)))) tt
 
 pub returns-clause-promised : goal.returns-clause-promised
-returns-clause-promised g c = λ empty.
+returns-clause-promised g c =
     let inputs = c.args.inputs.now in
     let so_far = c.loop-input.invariant.1 in
     kept_promises g.D.Desk.conduct (take c.loop-input.taken inputs) (scene c.args.desk.now c.args.self.now)
-    (scene c.loop-input.desk c.loop-input.self) so_far.0 empty
+    (scene c.loop-input.desk c.loop-input.self) so_far.0
     (subst (λ (n : ℕ). PlaysInputs g.D.Desk.conduct (take n inputs) (scene c.args.desk.now c.args.self.now) so_far.0
     (scene c.loop-input.desk c.loop-input.self)) (sym c.loop-input.invariant.0) so_far.1)

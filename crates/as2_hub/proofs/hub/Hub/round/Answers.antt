@@ -9,7 +9,7 @@ pub returns-clause-settles : goal.returns-clause-settles
 returns-clause-settles g c =
     round_settled g.D.Desk.conduct (scene c.args.desk.now c.args.self.now) (scene c.ask_all.new.desk c.ask_all.new.self)
     (scene c.settle-is_kept.new.self c.settle_all.new.self) c.args.ready.now c.settle-is_kept.result
-    c.ask_all.ensures.asks c.settle-is_kept.ensures.kept c.settle-is_kept.ensures.may_lose c.settle-is_kept.ensures.keeps
+    c.ask_all.ensures.asks c.settle-is_kept.ensures.rests c.settle-is_kept.ensures.kept c.settle-is_kept.ensures.may_lose c.settle-is_kept.ensures.keeps
     c.settle_all.ensures.kept c.settle_all.ensures.waits
 
 pub returns-clause-bounded : goal.returns-clause-bounded

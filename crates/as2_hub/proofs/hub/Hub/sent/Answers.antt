@@ -1,10 +1,10 @@
 use Rattle.std.proofs.Common.{◌≡◌, ◌<◌, ◌++◌, ◌∷◌, List, ℕ, length, take, Option, Some, refl, sym, subst, ap, ◌∙◌, arith}
 use Rattle.std.specs.Prelude.{slice_get, slice_set}
 use Rattle.std.proofs.lemmas.List.{take-append-drop}
-use Rattle.as2_hub.specs.Bounded.{unread_in}
+use Rattle.as2_hub.specs.Bounded.{unanswered_in}
 use Rattle.as2_hub.specs.Happenings.{Goes}
 use Rattle.as2_hub.specs.Places.{StandAfter, output_at}
-use Rattle.as2_hub.specs.Talks.{unread_of}
+use Rattle.as2_hub.specs.Talks.{unanswered_of}
 use Rattle.as2_hub.specs.declared.talk.Talk.{Talk}
 use Rattle.as2_hub.proofs.Standing.{gone, there, within_of}
 use Rattle.as2_hub.proofs.Within.{bounded_less, less_set}
@@ -49,6 +49,6 @@ returns-clause-bounded c =
     let nothing : length (output_at (slice_get talks at)) ≡ 0 = ap (λ (o : Option (Option Talk)). length (output_at o)) none in
     absurd (omega (arith, ap length c.output.ensures, nothing))) in
     let here = there talks at c.index_mut.result.now t within c.index_mut.ensures.value c.in-Some.is in
-    let was : unread_in (slice_get talks at) ≡ unread_of t = ap unread_in here in
-    let unread : unread_of c.sent.new.self ≡ unread_of t = ap unread_of c.sent.ensures.others in
+    let was : unanswered_in (slice_get talks at) ≡ unanswered_of t = ap unanswered_in here in
+    let unread : unanswered_of c.sent.new.self ≡ unanswered_of t = ap unanswered_of c.sent.ensures.others in
     bounded_less c.args.self.now _ refl (less_set talks at (Some c.sent.new.self) within (omega (arith, was, unread)))

@@ -1,9 +1,9 @@
 use Rattle.std.proofs.Common.{rules, ◌≡◌, List, [], ◌∷◌, Option, Some, ap, subst, sym, arith}
 use Rattle.std.specs.Prelude.{slice_get, slice_set}
-use Rattle.as2_hub.specs.Bounded.{unread_in}
-use Rattle.as2_hub.specs.Places.{PlaceStands, WaitsOn}
+use Rattle.as2_hub.specs.Bounded.{unanswered_in}
+use Rattle.as2_hub.specs.Places.{PlaceStands, ChangesOnlyIfKept}
 use Rattle.as2_hub.specs.Happenings.{Keeps}
-use Rattle.as2_hub.specs.Talks.{unread_of}
+use Rattle.as2_hub.specs.Talks.{unanswered_of}
 use Rattle.as2_hub.specs.declared.talk.Talk.{Talk}
 use Rattle.as2_hub.proofs.Standing.{get_set_other, get_set_same, nobody_there, put_back, settled_none, settled_place, there}
 use Rattle.as2_hub.proofs.Waiting.{waits_here, waits_vacant}
@@ -36,7 +36,7 @@ pub returns-clause-unread : goal.returns-clause-unread
 returns-clause-unread c =
     let talks = c.args.self.now.talks.items in
     let here = there talks c.args.at c.index_mut.result.now c.in-Some.talk c.requires.within c.index_mut.ensures.value c.in-Some.is in
-    let was : unread_in (slice_get talks c.args.at) ≡ unread_of c.in-Some.talk = ap unread_in here in
+    let was : unanswered_in (slice_get talks c.args.at) ≡ unanswered_of c.in-Some.talk = ap unanswered_in here in
     less_set talks c.args.at (Some c.settle.new.self) c.requires.within (omega (arith, was, c.settle.ensures.unread))
 
 pub returns-clause-waits : goal.returns-clause-waits
@@ -54,5 +54,5 @@ returns-in_default-clause-waits c =
     let at = c.args.at in
     let found = c.index_mut.result.now in
     let none = nobody_there talks at found c.requires.within c.index_mut.ensures.value (first_of (cc, search rules)) in
-    subst (λ (l : List (Option Talk)). WaitsOn c.args.is_kept (slice_get talks at) (slice_get l at))
+    subst (λ (l : List (Option Talk)). ChangesOnlyIfKept c.args.is_kept (slice_get talks at) (slice_get l at))
     (sym (put_back talks at found c.requires.within c.index_mut.ensures.value)) (waits_vacant c.args.is_kept (slice_get talks at) none)

@@ -17,5 +17,5 @@ pub returns-clause-rest : goal.returns-clause-rest
 returns-clause-rest c = λ input calls it.
     heard_parsed c.args.self.now c.parse-used.new.self c.keep-2.new.self c.in-Some.parser c.parse-used.result c.args.piece.now input calls
     (first_of (cc, search rules)) (search (rules, is_none_of)) c.parse-used.ensures.within
-    c.parse-used.ensures.taken (ap (λ t. t.behind) c.parse-used.ensures.others) c.parse-used.ensures.unread
+    c.parse-used.ensures.no_more c.parse-used.ensures.taken (ap (λ t. t.behind) c.parse-used.ensures.others) c.parse-used.ensures.unread
     (subst (λ (x : List ℕ). KeepsBehind c.parse-used.new.self c.keep-2.new.self x) (rest_of c.parse-used.result c.args.piece.now) c.keep-2.ensures) it

@@ -1,5 +1,5 @@
 use Rattle.std.proofs.Common.{◌≡◌, Some, refl, sym, ap, ◌∙◌, arith}
-use Rattle.as2_hub.specs.Talks.{awaiting, unread_of}
+use Rattle.as2_hub.specs.Talks.{awaiting, unanswered_of}
 use Rattle.as2_hub.specs.declared.desk.Reply.{Reply}
 use Rattle.as2_hub.specs.declared.talk.Talk.{Talk}
 use Rattle.as2_hub.proofs.Reading.{settled_on, settled_end}
@@ -16,6 +16,7 @@ returns-then-reply-clause-kept c = λ kept e input calls holds it.
                 ∙ none,
             ap (λ (t : Talk). t.waiting) (c.go_on.ensures.ended none),
             ap (λ (t : Talk). t.is_spent) (c.go_on.ensures.ended none),
+            ap (λ (t : Talk). t.taken) (c.go_on.ensures.ended none),
             c.go_on.ensures.nothing none,
           ))
           it,
