@@ -143,8 +143,8 @@ module _ {M : Medium} {K : Type 0} (shows : K → Standing M) where
             subst (λ (m : ℕ). Answered b.agreements.now m s (one ++ earlier) b) (sym when)
             (subst (λ (A : AgreedValues). Answered A a.moment s (one ++ earlier) b) (sym agreed) mid) in
             subst (λ (l : List DeskCall). Answered a.agreements.now a.moment s l c) (sym (append_assoc two one earlier))
-            (subst (λ (m : ℕ). Answered a.agreements.now m s (two ++ one ++ earlier) c) when
-            (subst (λ (A : AgreedValues). Answered A b.moment s (two ++ one ++ earlier) c) agreed (second.on clean s (one ++ earlier) here)));
+            (subst (λ (m : ℕ). Answered a.agreements.now m s (two ++ (one ++ earlier)) c) when
+            (subst (λ (A : AgreedValues). Answered A b.moment s (two ++ (one ++ earlier)) c) agreed (second.on clean s (one ++ earlier) here)));
       }
 
   chain_on : (old new : StationDesk K) (round : List DeskCall) → Chain (conduct_by shows) old round new → LeadsOn round old new

@@ -6,3 +6,6 @@ mod playing;
 
 pub use desk::StationDesk;
 pub use playing::play;
+
+#[cfg(test)]
+mod tests;
