@@ -12,7 +12,8 @@ use as2_station::Station;
 use as2_text::Moment;
 use std::alloc::Global;
 
-/// The station, its agreements and the moment at which it answers. What it answers is committed at once, so that no round is lost.
+/// The station, its agreements and the moment at which it answers. What it answers is committed at once, so that no
+/// round is lost.
 #[derive(Drop)]
 pub struct StationDesk<'a, K: Records> {
     alloc: Global,
@@ -56,7 +57,8 @@ impl<'a, K: Records> StationDesk<'a, K> {
         self.station
     }
 
-    /// The reply to what a connection begins with. Where memory for it isn't there, it is empty and the connection ends.
+    /// The reply to what a connection begins with. Where memory for it isn't there, it is empty and the connection
+    /// ends.
     fn reply(&self, form: Form, answer: &HttpAnswer, stays: bool) -> Reply
         ensures { GivesReply self.now.moment form answer.now stays result.text.items result.stays }
     {

@@ -8,8 +8,8 @@ use crate::desk::StationDesk;
 use as2_hub::{Hub, Input};
 use as2_records::Records;
 
-/// Takes what happens at the connections, one after the other, up to the first piece for which there is no room, and has the station
-/// answer their requests. Answers how many inputs were taken.
+/// Takes what happens at the connections, one after the other, up to the first piece for which there is no room, and has
+/// the station answer their requests. Answers how many inputs were taken.
 pub fn play<K: Records>(hub: &mut Hub, desk: &mut StationDesk<'_, K>, inputs: &[Input]) -> usize
     ensures count { result ≤ length inputs.now }
     ensures stops { StopsBefore hub.new (slice_get inputs.now result) }

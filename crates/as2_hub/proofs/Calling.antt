@@ -4,7 +4,7 @@
 use Rattle.std.proofs.Common.{◌≡◌, ℕ, ◌==◌, Bool, true, false, List, [], ◌∷◌, ◌++◌, if◌then◌else◌, Option, Some, None, IsTrue, refl, sym, ap, subst, ◌∙◌, append_assoc, append-nil, MatchBool}
 use Rattle.std.specs.Prelude.{slice_get}
 use Rattle.as2_hub.specs.Calls.{AnswersInOrder, DeskCall, calls_at}
-use Rattle.as2_hub.specs.Conduct.{Conduct, Chain, GoesOn, Round}
+use Rattle.as2_hub.specs.Conduct.{Conduct, Chain, KeepsUntilSettled, Round}
 use Rattle.as2_hub.specs.Happenings.{Happenings, Keeps, Loses, is_open_after, bytes_from, calls_of}
 use Rattle.as2_hub.specs.Talks.{HoldsRest, Pends, before_calls}
 use Rattle.as2_hub.specs.Places.{ChangesOnlyIfKept, PlaceStands, StandAmid, StandAfter, places}
@@ -39,7 +39,7 @@ module _ {S : Type 0} (D : Conduct S) where
   chain_then a b c one [] first second = subst (λ (x : S). Chain D a one x) (sym second) first
   chain_then a b c one (e ∷ two) first second = (second.0, chain_then a b second.0 one two first second.1, second.2)
 
-  pub goes_then : (a b c : S) → GoesOn D a b → GoesOn D b c → GoesOn D a c
+  pub goes_then : (a b c : S) → KeepsUntilSettled D a b → KeepsUntilSettled D b c → KeepsUntilSettled D a c
   goes_then a b c one two = record {
     may_lose = two.may_lose ∙ one.may_lose;
     keeps = λ may. two.keeps (one.may_lose ∙ may) ∙ one.keeps may;

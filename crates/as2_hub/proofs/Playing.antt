@@ -60,7 +60,8 @@ quiet_answers (Closes c ∷ more) h is it = absurd is
 -- ---- what is promised
 
 -- of a connection that stands so
-pub promised : (talks : List (Option Talk)) (h : Happenings) → StandAfter talks h → (c : ℕ) → is_open_after c h ≡ true → Promise c h (output_at (slice_get talks c))
+pub promised : (talks : List (Option Talk)) (h : Happenings) → StandAfter talks h → (c : ℕ) → is_open_after c h ≡ true
+    → Promise c h (output_at (slice_get talks c))
 unfolding StandAmid
 promised talks h it c taken = go (slice_get talks c) (it c)
   where

@@ -157,7 +157,8 @@ heard_nothing old new piece input calls was is same spent taken behind (inl it) 
 })
 
 -- .. behind what waits
-unread_more : (p : RequestParser) (b : Beginning) (spent : Bool) (taken : ℕ) (behind text more : List ℕ) → UnansweredBy (Some p) (Some b) spent taken behind text
+unread_more : (p : RequestParser) (b : Beginning) (spent : Bool) (taken : ℕ) (behind text more : List ℕ)
+    → UnansweredBy (Some p) (Some b) spent taken behind text
     → UnansweredBy (Some p) (Some b) spent taken (behind ++ more) (text ++ more)
 unread_more p (beginning.Request r) spent taken behind text more it = (it.0, begins_append text more r behind it.1)
 unread_more p (beginning.NoRequest refused) spent taken behind text more it = absurd it

@@ -18,7 +18,7 @@ pub record Conduct (S : Type 0) : Type 1 where
   pub may_lose : S → Bool
 
 -- within a round: where it may be lost it still may be, and the second state keeps what the first does
-pub record GoesOn {S : Type 0} (D : Conduct S) (old new : S) : Type 0 where
+pub record KeepsUntilSettled {S : Type 0} (D : Conduct S) (old new : S) : Type 0 where
   pub may_lose : D.may_lose new ≡ D.may_lose old
   pub keeps : D.may_lose old ≡ true → D.kept new ≡ D.kept old
 

@@ -1,7 +1,7 @@
 -- Rounds: which calls of the desk are made, and what becomes of them.
 use Rattle.std.specs.Prelude.{◌≡◌, ℕ, Bool, true, false, List, [], ◌∷◌, ◌++◌, Option, slice_get, MatchBool, ⊤}
 use Rattle.as2_hub.specs.Calls.{DeskCall, AnswersInOrder, calls_at}
-use Rattle.as2_hub.specs.Conduct.{Conduct, Chain, GoesOn, Round}
+use Rattle.as2_hub.specs.Conduct.{Conduct, Chain, KeepsUntilSettled, Round}
 use Rattle.as2_hub.specs.Happenings.{Happenings, Opens, Comes, Keeps, Loses, Goes, Closes, is_open_after, bytes_from, calls_of}
 use Rattle.as2_hub.specs.Places.{DiffersByReplies, StandAmid, StandAfter, ended_round, places}
 use Rattle.as2_hub.specs.Turns.{AsksAt, called_places, places_asked}
@@ -24,7 +24,7 @@ pub record MakesCalls {S : Type 0} (D : Conduct S) (old new : S) (talks next : L
   pub goes_on : (h : Happenings) (round : List DeskCall) → StandAmid talks h round → StandAmid next h (calls ++ round)
   pub others : (c : ℕ) → calls_at c calls ≡ [] → slice_get next c ≡ slice_get talks c
   pub back : D.may_lose old ≡ true → DiffersByReplies talks next
-  pub on : GoesOn D old new
+  pub on : KeepsUntilSettled D old new
 
 -- that place was asked
 pub record AsksPlace {S : Type 0} (D : Conduct S) (at : ℕ) (old new : Scene S) (is_called : Bool) : Type 0 where

@@ -4,7 +4,7 @@ use Rattle.as2_messages.specs.Parsing.{HasTaken}
 use Rattle.as2_messages.specs.Requests.{BeginsRequest, BeginsNoRequest}
 use Rattle.as2_messages.specs.declared.parser.RequestParser.{RequestParser}
 use Rattle.as2_hub.specs.Calls.{DeskCall, MayStay, ReadsTo, ReadsToEnd}
-use Rattle.as2_hub.specs.Conduct.{Conduct, GoesOn}
+use Rattle.as2_hub.specs.Conduct.{Conduct, KeepsUntilSettled}
 use Rattle.as2_hub.specs.declared.beginning.Beginning.{Beginning}
 use Rattle.as2_hub.specs.declared.beginning.Beginning.TheVariants as beginning
 use Rattle.as2_hub.specs.declared.desk.Reply.{Reply}
@@ -113,7 +113,7 @@ pub record AnswersWaiting {S : Type 0} (D : Conduct S) (desk later : S) (t next 
   pub last : MayStay asked reply.stays
   pub held : next ≡ record t { waiting = next.waiting; reply = Some reply }
   pub back : D.may_lose desk ≡ true → next.waiting ≡ t.waiting
-  pub on : GoesOn D desk later
+  pub on : KeepsUntilSettled D desk later
 
 -- the desk answered what waits; or nothing waits, and nothing changed
 abbrev pub AsksDesk : {S : Type 0} → Conduct S → S → S → Talk → Talk → Bool → Type 0

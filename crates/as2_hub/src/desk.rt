@@ -1,7 +1,7 @@
 //! What answers requests.
 ghost use Rattle.std.specs.Prelude.{◌≡◌, true, false, IsTrue, Some, option_map};
 ghost use Rattle.as2_hub.specs.Calls.{MayStay};
-ghost use Rattle.as2_hub.specs.Conduct.{Conduct, GoesOn};
+ghost use Rattle.as2_hub.specs.Conduct.{Conduct, KeepsUntilSettled};
 ghost use Rattle.as2_hub.specs.declared.beginning.Beginning.TheVariants as beginning;
 
 use crate::beginning::Beginning;
@@ -34,8 +34,8 @@ pub struct Resolved {
     pub asked: Option<Beginning>,
 }
 
-/// What answers requests, in rounds. Of a round that may be lost it keeps nothing before `settle` says so, and gives its
-/// requests back.
+/// What answers requests, in rounds. Of a round that may be lost it keeps nothing before `settle` says so, and gives
+/// its requests back.
 pub trait Desk {
     // How it answers.
     ghost conduct: { Conduct Self };
@@ -46,15 +46,15 @@ pub trait Desk {
             result.reply.stays self.new }
         ensures last { IsTrue request.last → result.reply.stays ≡ false }
         ensures back { conduct.may_lose self.old ≡ true → result.request ≡ Some request }
-        ensures goes_on { GoesOn conduct self.old self.new };
+        ensures goes_on { KeepsUntilSettled conduct self.old self.new };
 
     /// Answers bytes that no request begins with.
     fn refuse(&mut self, refused: Refused) -> Vec<u8>
         ensures answers { conduct.answers self.old (beginning.NoRequest refused) result.items false self.new }
-        ensures goes_on { GoesOn conduct self.old self.new };
+        ensures goes_on { KeepsUntilSettled conduct self.old self.new };
 
-    /// Ends the round, and says whether it is kept. One that is lost, as it may have been from its begin, leaves what the
-    /// desk keeps as it was.
+    /// Ends the round, and says whether it is kept. One that is lost, as it may have been from its begin, leaves what
+    /// the desk keeps as it was.
     fn settle(&mut self) -> bool
         ensures rests { conduct.at_rest self.new }
         ensures kept { IsTrue result → conduct.settles self.old self.new }
@@ -77,7 +77,7 @@ pub fn reply_to<D: Desk>(desk: &mut D, asked: Beginning) -> Resolved
     ensures answers { D.conduct.answers desk.old asked result.reply.text.items result.reply.stays desk.new }
     ensures last { MayStay asked result.reply.stays }
     ensures back { D.conduct.may_lose desk.old ≡ true → result.asked ≡ Some asked }
-    ensures goes_on { GoesOn D.conduct desk.old desk.new }
+    ensures goes_on { KeepsUntilSettled D.conduct desk.old desk.new }
 {
     match asked {
         Beginning::Request(request) => {

@@ -146,9 +146,10 @@ impl Hub {
     /// Takes all of a piece that came. False: there is no room for all of it, and nothing changes.
     fn hear_all(&mut self, at: usize, piece: &[u8]) -> bool
         ensures fits { result ≡ piece_fits self.old at piece.now }
-        ensures stands { IsTrue result → (h : Happenings) → StandAfter (places self.old) h → StandAfter (places self.new)
-            (comes_if (is_reading_in (slice_get (places self.old) at)) at piece.now ++ h) }
-        ensures changes { IsTrue result → ChangesPlaces (comes_if (is_reading_in (slice_get (places self.old) at)) at piece.now)
+        ensures stands { IsTrue result → (h : Happenings) → StandAfter (places self.old) h
+            → StandAfter (places self.new) (comes_if (is_reading_in (slice_get (places self.old) at)) at piece.now ++ h) }
+        ensures changes { IsTrue result
+            → ChangesPlaces (comes_if (is_reading_in (slice_get (places self.old) at)) at piece.now)
             (places self.old) (places self.new) }
         ensures bounded { KeepsBounds self.old self.new }
         ensures none { result ≡ false → self.new ≡ self.old }
@@ -226,7 +227,8 @@ impl Hub {
     fn settle_all(&mut self, is_kept: bool)
         ensures kept { IsTrue is_kept → (h : Happenings) (round : List DeskCall) → StandAmid (places self.old) h round
             → StandAfter (places self.new) (Keeps round ∷ h) }
-        ensures waits { (c : ℕ) → ChangesOnlyIfKept is_kept (slice_get (places self.old) c) (slice_get (places self.new) c) }
+        ensures waits { (c : ℕ) → ChangesOnlyIfKept is_kept (slice_get (places self.old) c)
+            (slice_get (places self.new) c) }
         ensures unread { HoldsNoMore (places self.old) (places self.new) }
         ensures bounds { self.new.bounds ≡ self.old.bounds }
     {
@@ -288,8 +290,8 @@ impl Hub {
         }
     }
 
-    /// Takes what happens. Bytes of a connection of which nothing more is read are passed over. False: there is no room for
-    /// all the bytes that came, and nothing changes.
+    /// Takes what happens. Bytes of a connection of which nothing more is read are passed over. False: there is no room
+    /// for all the bytes that came, and nothing changes.
     pub fn take<D: Desk>(&mut self, desk: &mut D, input: &Input) -> bool
         ensures fits { result ≡ fits_in self.old input.now }
         ensures takes { IsTrue result → (more : Happenings)
@@ -316,8 +318,8 @@ impl Hub {
     pub fn play<D: Desk>(&mut self, desk: &mut D, inputs: &[Input]) -> usize
         ensures count { result ≤ length inputs.now }
         ensures stops { StopsBefore self.new (slice_get inputs.now result) }
-        // Each connection is told what the rounds say that were kept; they led the desk, in this order, and a round that was
-        // lost left what it keeps as it was.
+        // Each connection is told what the rounds say that were kept; they led the desk, in this order, and a round
+        // that was lost left what it keeps as it was.
         ensures promised { KeepsPromises D.conduct (take result inputs.now) (scene desk.old self.old)
             (scene desk.new self.new) }
     {

@@ -51,7 +51,8 @@ impl Talk {
         }
     }
 
-    /// Has the parser take bytes, and answers how many of them it took. Where memory isn't there, the connection is given up.
+    /// Has the parser take bytes, and answers how many of them it took. Where memory isn't there, the connection is
+    /// given up.
     fn parse(&mut self, parser: RequestParser, bytes: &[u8]) -> usize
         requires some { 0 < length bytes.now }
         requires ended { self.old.parser ≡ None }

@@ -10,7 +10,8 @@ returns-in-Opens-clause-takes g c = λ yes.
 pub returns-in-Comes-clause-takes : goal.returns-in-Comes-clause-takes
 returns-in-Comes-clause-takes g c = λ yes.
     takes_comes g.D.Desk.conduct c.args.desk.now c.args.self.now c.hear_all.new.self c.args.input.now c.in-Comes.at c.in-Comes.piece c.deref.result.now
-    c.in-Comes.is c.deref.ensures.value (sym c.hear_all.ensures.fits ∙ yes) (c.hear_all.ensures.stands yes) (c.hear_all.ensures.changes yes) c.hear_all.ensures.bounded
+    c.in-Comes.is c.deref.ensures.value (sym c.hear_all.ensures.fits ∙ yes) (c.hear_all.ensures.stands yes)
+    (c.hear_all.ensures.changes yes) c.hear_all.ensures.bounded
 
 pub returns-in-Turns-clause-takes : goal.returns-in-Turns-clause-takes
 returns-in-Turns-clause-takes g c = λ yes.
