@@ -34,6 +34,7 @@ impl Desk for Counting {
     ghost conduct = { record {
       Kept = ℕ;
       kept = λ desk. desk.kept;
+      at_rest = λ desk. ⊤;
       answers = λ old asked text stays new. ⊤;
       settles = λ old new. ⊤;
       may_lose = λ desk. true;
