@@ -18,6 +18,8 @@ for file in "$top"/bench/hub/*.rattle "$top/tests/hub/second.rattle"; do
     name=$(basename "$file" .rattle)
     cp "$file" "$work/crates/hub_bench/src/$name.rt"
 done
+mkdir -p "$work/crates/hub_bench/proofs/second/Second/serve"
+sed s/PROGRAM/hub_bench/ "$top/tests/hub/second.proof" > "$work/crates/hub_bench/proofs/second/Second/serve/Invariants.antt"
 [ "${1:-}" = --try ] || build hub_bench
 
 python3 "$top/bench/hub.py" "$top/examples/agreements.toml" "$work" "$@"

@@ -15,7 +15,7 @@ the end `serve_stream` writes nothing for what came and has no reply; and that b
 
 The program in tests/hub/ plays the schedules; this writes them, builds the program in a copy of the crates that it stands on, and tells
 what it found. The files of the program end in .rattle, since `rt ci` refuses a file .rt that belongs to no crate; in the copy they end in
-.rt. Where these crates stand proved in crates/*/out and no source is newer, the program is proved over them and built by `rt run`, and
+.rt. One file is of its proof, and is handed on likewise. Where these crates stand proved in crates/*/out and no source is newer, the program is proved over them and built by `rt run`, and
 several processes play side by side. It then stays in .git/hub_driver, if .git is a folder. Where one of the crates isn't proved, nor is
 the program: `rt try` builds it with checks, and plays in one process, many times slower.
 
@@ -288,6 +288,10 @@ def copied(folder, crates, parts):
     source.mkdir(parents=True)
     for file in (TOP / "tests" / "hub").glob("*.rattle"):
         shutil.copy(file, source / f"{file.stem}.rt")
+    proof = folder / "crates" / PROGRAM / "proofs" / "second" / "Second" / "serve"
+    proof.mkdir(parents=True)
+    text = (TOP / "tests" / "hub" / "second.proof").read_text(encoding="utf-8")
+    (proof / "Invariants.antt").write_text(text.replace("PROGRAM", PROGRAM), encoding="utf-8")
     listed = (TOP / "crates.txt").read_text(encoding="utf-8").splitlines(keepends=True)
     some = [it for it in listed if it.partition(":")[0].strip() in crates]
     (folder / "crates.txt").write_text("".join([*some, f"{PROGRAM}: {USES}\n"]), encoding="utf-8")
