@@ -78,27 +78,27 @@ none_not_some (Some x) is some = cc
 
 -- what is unread of a talk with such fields
 unread_at : (t : Talk) (p : Option RequestParser) (w : Option Beginning) (s : Bool) (n : ℕ) (b text : List ℕ) → t.parser ≡ p → t.waiting ≡ w
-    → t.is_spent ≡ s → t.taken ≡ n → t.behind.items ≡ b
-    → UnansweredBy p w s n b text → UnansweredBy t.parser t.waiting t.is_spent t.taken t.behind.items text
+    → t.is_spent ≡ s → t.taken ≡ n → t.behind ≡ b
+    → UnansweredBy p w s n b text → UnansweredBy t.parser t.waiting t.is_spent t.taken t.behind text
 unread_at t p w s n b text parser waiting spent taken behind it =
-    subst (λ (o : Option RequestParser). UnansweredBy o t.waiting t.is_spent t.taken t.behind.items text) (sym parser)
-    (subst (λ (o : Option Beginning). UnansweredBy p o t.is_spent t.taken t.behind.items text) (sym waiting)
-    (subst (λ (o : Bool). UnansweredBy p w o t.taken t.behind.items text) (sym spent)
-    (subst (λ (k : ℕ). UnansweredBy p w s k t.behind.items text) (sym taken)
+    subst (λ (o : Option RequestParser). UnansweredBy o t.waiting t.is_spent t.taken t.behind text) (sym parser)
+    (subst (λ (o : Option Beginning). UnansweredBy p o t.is_spent t.taken t.behind text) (sym waiting)
+    (subst (λ (o : Bool). UnansweredBy p w o t.taken t.behind text) (sym spent)
+    (subst (λ (k : ℕ). UnansweredBy p w s k t.behind text) (sym taken)
     (subst (λ (x : List ℕ). UnansweredBy p w s n x text) (sym behind) it))))
 
 -- .. and back
 unread_as : (t : Talk) (p : Option RequestParser) (w : Option Beginning) (text : List ℕ) → t.parser ≡ p → t.waiting ≡ w
-    → UnansweredBy t.parser t.waiting t.is_spent t.taken t.behind.items text → UnansweredBy p w t.is_spent t.taken t.behind.items text
+    → UnansweredBy t.parser t.waiting t.is_spent t.taken t.behind text → UnansweredBy p w t.is_spent t.taken t.behind text
 unread_as t p w text parser waiting it =
-    subst (λ (o : Option Beginning). UnansweredBy p o t.is_spent t.taken t.behind.items text) waiting
-    (subst (λ (o : Option RequestParser). UnansweredBy o t.waiting t.is_spent t.taken t.behind.items text) parser it)
+    subst (λ (o : Option Beginning). UnansweredBy p o t.is_spent t.taken t.behind text) waiting
+    (subst (λ (o : Option RequestParser). UnansweredBy o t.waiting t.is_spent t.taken t.behind text) parser it)
 
 some_is : {A : Type 0} (o : Option A) (x : A) → o ≡ Some x → IsSome o
 some_is {A} o x is = subst (λ (y : Option A). IsSome y) (sym is) refl
 
 unread_same : (old new : Talk) → new.taken ≡ old.taken → new.behind ≡ old.behind → unanswered_of new ≡ unanswered_of old
-unread_same old new taken behind = ap (λ (n : ℕ). n + length new.behind.items) taken ∙ ap (λ v. old.taken + length v.items) behind
+unread_same old new taken behind = ap (λ (n : ℕ). n + length new.behind) taken ∙ ap (λ (l : List ℕ). old.taken + length l) behind
 
 -- what goes by these alone
 pub rest_same : (old new : Talk) (input : List ℕ) (calls : List DeskCall) → new.parser ≡ old.parser → new.waiting ≡ old.waiting → new.is_spent ≡ old.is_spent
@@ -109,8 +109,8 @@ rest_same old new input calls parser waiting spent taken behind (inl it) =
       text = it.text;
       answered = it.answered;
       holds = record {
-        unread = unread_at new old.parser old.waiting old.is_spent old.taken old.behind.items it.text parser waiting spent taken
-            (ap (λ v. v.items) behind) it.holds.unread;
+        unread = unread_at new old.parser old.waiting old.is_spent old.taken old.behind it.text parser waiting spent taken
+            behind it.holds.unread;
         no_more = omega (arith, same, it.holds.no_more);
         counted = λ some. same ∙ it.holds.counted (subst (λ (o : Option RequestParser). IsSome o) parser some);
       };
@@ -147,9 +147,9 @@ heard_nothing old new piece input calls was is same spent taken behind (inl it) 
   text = it.text ++ piece;
   answered = reads_append input piece calls it.text it.answered;
   holds = record {
-    unread = unread_at new None old.waiting old.is_spent old.taken old.behind.items (it.text ++ piece) is same spent taken
-        (ap (λ v. v.items) behind)
-        (spent_append old.waiting old.is_spent old.taken old.behind.items it.text piece
+    unread = unread_at new None old.waiting old.is_spent old.taken old.behind (it.text ++ piece) is same spent taken
+        behind
+        (spent_append old.waiting old.is_spent old.taken old.behind it.text piece
         (unread_as old None old.waiting it.text was refl it.holds.unread));
     no_more = omega (arith, it.holds.no_more, unread_same old new taken behind, length-append it.text piece);
     counted = λ some. absurd (none_not_some new.parser is some);
@@ -165,15 +165,15 @@ unread_more p (beginning.NoRequest refused) spent taken behind text more it = ab
 
 -- what was kept behind a talk that holds an unread text
 kept_behind : (mid new : Talk) (more text input : List ℕ) (calls : List DeskCall) → KeepsBehind mid new more → ReadsTo input calls text
-    → UnansweredBy mid.parser mid.waiting mid.is_spent mid.taken (mid.behind.items ++ more) text → unanswered_of mid + length more ≤ length text
+    → UnansweredBy mid.parser mid.waiting mid.is_spent mid.taken (mid.behind ++ more) text → unanswered_of mid + length more ≤ length text
     → (IsSome mid.parser → unanswered_of mid + length more ≡ length text) → HoldsRest new input calls
 kept_behind mid new more text input calls (inl k) reads unread no_more counted =
     let taken : new.taken ≡ mid.taken = ap (λ (t : Talk). t.taken) k.0 in
-    let behind : length new.behind.items ≡ length mid.behind.items + length more = ap length k.1 ∙ length-append mid.behind.items more in inl (record {
+    let behind : length new.behind ≡ length mid.behind + length more = ap length k.1 ∙ length-append mid.behind more in inl (record {
       text = text;
       answered = reads;
       holds = record {
-        unread = unread_at new mid.parser mid.waiting mid.is_spent mid.taken (mid.behind.items ++ more) text (ap (λ (t : Talk). t.parser) k.0)
+        unread = unread_at new mid.parser mid.waiting mid.is_spent mid.taken (mid.behind ++ more) text (ap (λ (t : Talk). t.parser) k.0)
             (ap (λ (t : Talk). t.waiting) k.0) (ap (λ (t : Talk). t.is_spent) k.0) taken k.1 unread;
         no_more = omega (arith, taken, behind, no_more);
         counted = λ some.
@@ -183,15 +183,15 @@ kept_behind mid new more text input calls (inl k) reads unread no_more counted =
     })
 kept_behind mid new more text input calls (inr k) reads unread no_more counted =
     let taken : new.taken ≡ mid.taken = ap (λ (t : Talk). t.taken) k.1 in
-    let behind : length new.behind.items ≡ 0 = ap length k.2 in inl (record {
+    let behind : length new.behind ≡ 0 = ap length k.2 in inl (record {
       text = text;
       answered = reads;
       holds = record {
-        unread = unread_at new None mid.waiting true mid.taken new.behind.items text (ap (λ (t : Talk). t.parser) k.1) (ap (λ (t : Talk). t.waiting) k.1)
+        unread = unread_at new None mid.waiting true mid.taken new.behind text (ap (λ (t : Talk). t.parser) k.1) (ap (λ (t : Talk). t.waiting) k.1)
             (ap (λ (t : Talk). t.is_spent) k.1) taken refl
-            (spent_of mid.parser mid.waiting mid.is_spent mid.taken (mid.behind.items ++ more) new.behind.items text unread
-            (some_behind mid.behind.items more k.0)
-            (λ some. omega (arith, counted some, length-append mid.behind.items more)));
+            (spent_of mid.parser mid.waiting mid.is_spent mid.taken (mid.behind ++ more) new.behind text unread
+            (some_behind mid.behind more k.0)
+            (λ some. omega (arith, counted some, length-append mid.behind more)));
         no_more = omega (arith, taken, behind, no_more);
         counted = λ some. absurd (none_not_some new.parser (ap (λ (t : Talk). t.parser) k.1) some);
       };
@@ -204,9 +204,9 @@ heard_behind old new p b piece input calls was waits keeps (inr ended) = absurd 
 heard_behind old new p b piece input calls was waits keeps (inl it) =
     let count : unanswered_of old ≡ length it.text = it.holds.counted (some_is old.parser p was) in
     kept_behind old new piece (it.text ++ piece) (input ++ piece) calls keeps (reads_append input piece calls it.text it.answered)
-    (subst (λ (o : Option RequestParser). UnansweredBy o old.waiting old.is_spent old.taken (old.behind.items ++ piece) (it.text ++ piece)) (sym was)
-    (subst (λ (w : Option Beginning). UnansweredBy (Some p) w old.is_spent old.taken (old.behind.items ++ piece) (it.text ++ piece)) (sym waits)
-    (unread_more p b old.is_spent old.taken old.behind.items it.text piece (unread_as old (Some p) (Some b) it.text was waits it.holds.unread))))
+    (subst (λ (o : Option RequestParser). UnansweredBy o old.waiting old.is_spent old.taken (old.behind ++ piece) (it.text ++ piece)) (sym was)
+    (subst (λ (w : Option Beginning). UnansweredBy (Some p) w old.is_spent old.taken (old.behind ++ piece) (it.text ++ piece)) (sym waits)
+    (unread_more p b old.is_spent old.taken old.behind it.text piece (unread_as old (Some p) (Some b) it.text was waits it.holds.unread))))
     (omega (arith, count, length-append it.text piece))
     (λ some. omega (arith, count, length-append it.text piece))
 
@@ -229,11 +229,11 @@ pub heard_parsed : (old mid new : Talk) (p : RequestParser) (n : ℕ) (piece inp
 heard_parsed old mid new p n piece input calls was free within most taken same parsed keeps (inr ended) =
     absurd (none_not_some old.parser ended.unread (some_is old.parser p was))
 heard_parsed old mid new p n piece input calls was free within most taken same parsed keeps (inl it) =
-    let before : UnansweredBy (Some p) None old.is_spent old.taken old.behind.items it.text = unread_as old (Some p) None it.text was free it.holds.unread in
-    let nothing : mid.behind.items ≡ [] = ap (λ v. v.items) same ∙ before.1 in
+    let before : UnansweredBy (Some p) None old.is_spent old.taken old.behind it.text = unread_as old (Some p) None it.text was free it.holds.unread in
+    let nothing : mid.behind ≡ [] = same ∙ before.1 in
     let count : unanswered_of old ≡ length it.text = it.holds.counted (some_is old.parser p was) in
-    let none : length old.behind.items ≡ 0 = ap length before.1 in
-    let gone : length mid.behind.items ≡ 0 = ap length nothing in
+    let none : length old.behind ≡ 0 = ap length before.1 in
+    let gone : length mid.behind ≡ 0 = ap length nothing in
     let all : old.taken ≡ length it.text = omega (arith, count, none) in
     kept_behind mid new (drop n piece) (it.text ++ piece) (input ++ piece) calls keeps (reads_append input piece calls it.text it.answered)
     (subst (λ (x : List ℕ). UnansweredBy mid.parser mid.waiting mid.is_spent mid.taken (x ++ drop n piece) (it.text ++ piece)) (sym nothing)
@@ -246,8 +246,8 @@ heard_parsed old mid new p n piece input calls was free within most taken same p
 -- .. and the connection stays open
 pub settled_on : (old new : Talk) (e : DeskCall) (input : List ℕ) (calls : List DeskCall) → old.waiting ≡ Some e.asked → e.stays ≡ true
     → MayStay e.asked e.stays
-    → ((p : RequestParser) → old.parser ≡ Some p → HasTaken p [] → HoldsUnanswered new old.behind.items)
-    → (old.parser ≡ None → (new.parser ≡ None) × (new.waiting ≡ None) × (new.is_spent ≡ old.is_spent) × (new.taken ≡ 0) × (new.behind.items ≡ []))
+    → ((p : RequestParser) → old.parser ≡ Some p → HasTaken p [] → HoldsUnanswered new old.behind)
+    → (old.parser ≡ None → (new.parser ≡ None) × (new.waiting ≡ None) × (new.is_spent ≡ old.is_spent) × (new.taken ≡ 0) × (new.behind ≡ []))
     → HoldsRest old input calls → HoldsRest new input (e ∷ calls)
 settled_on old new e input calls waits stays last on off (inr ended) = absurd (none_not_some old.waiting ended.none (some_is old.waiting e.asked waits))
 settled_on old new e input calls waits stays last on off (inl it) =
@@ -266,10 +266,10 @@ settled_on old new e input calls waits stays last on off (inl it) =
     last_of b is it = subst (λ (x : Beginning). MayStay x true) is it
 
     go : (o : Option RequestParser) (b : Beginning) → old.parser ≡ o → e.asked ≡ b → MayStay e.asked true
-        → UnansweredBy o (Some b) old.is_spent old.taken old.behind.items it.text → HoldsRest new input (e ∷ calls)
+        → UnansweredBy o (Some b) old.is_spent old.taken old.behind it.text → HoldsRest new input (e ∷ calls)
     go (Some p) (beginning.Request r) was is may u = inl (record {
-      text = old.behind.items;
-      answered = behind (beginning.Request r) old.behind.items is (last_of (beginning.Request r) is may, u.1);
+      text = old.behind;
+      answered = behind (beginning.Request r) old.behind is (last_of (beginning.Request r) is may, u.1);
       holds = on p was u.0;
     })
     go (Some p) (beginning.NoRequest refused) was is may u = absurd u
@@ -307,8 +307,8 @@ settled_end old new e input calls waits stays off none nothing (inl it) = inr (r
   nothing = nothing;
 })
   where
-    go : (o : Option RequestParser) (b : Beginning) → UnansweredBy o (Some b) old.is_spent old.taken old.behind.items it.text → EndsBehind it.text b false
-    go (Some p) (beginning.Request r) u = (old.behind.items, u.1)
+    go : (o : Option RequestParser) (b : Beginning) → UnansweredBy o (Some b) old.is_spent old.taken old.behind it.text → EndsBehind it.text b false
+    go (Some p) (beginning.Request r) u = (old.behind, u.1)
     go (Some p) (beginning.NoRequest refused) u = absurd u
     go None (beginning.Request r) u = (u.1.0, u.1.1)
     go None (beginning.NoRequest refused) u = u
@@ -343,10 +343,10 @@ in_order_with t e input calls waits last (inl it) =
     may b s asked stays it = subst (λ (x : Bool). MayStay b x) stays (subst (λ (x : Beginning). MayStay x e.stays) asked it)
 
     go : (o : Option RequestParser) (b : Beginning) (s : Bool) → e.asked ≡ b → e.stays ≡ s → MayStay e.asked e.stays
-        → UnansweredBy o (Some b) t.is_spent t.taken t.behind.items it.text → AnswersInOrder input (e ∷ calls)
+        → UnansweredBy o (Some b) t.is_spent t.taken t.behind it.text → AnswersInOrder input (e ∷ calls)
     go (Some p) (beginning.Request r) true asked stays m u =
-        goes (beginning.Request r) true t.behind.items asked stays (may (beginning.Request r) true asked stays m, u.1)
-    go (Some p) (beginning.Request r) false asked stays m u = ends (beginning.Request r) false asked stays (t.behind.items, u.1)
+        goes (beginning.Request r) true t.behind asked stays (may (beginning.Request r) true asked stays m, u.1)
+    go (Some p) (beginning.Request r) false asked stays m u = ends (beginning.Request r) false asked stays (t.behind, u.1)
     go (Some p) (beginning.NoRequest refused) s asked stays m u = absurd u
     go None (beginning.Request r) true asked stays m u =
         goes (beginning.Request r) true u.1.0 asked stays (may (beginning.Request r) true asked stays m, u.1.1)

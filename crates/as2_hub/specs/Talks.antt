@@ -12,7 +12,7 @@ use Rattle.as2_hub.specs.declared.talk.Talk.{Talk}
 
 -- how many bytes came that aren't answered
 abbrev pub unanswered_of : Talk → ℕ
-unanswered_of t = t.taken + length t.behind.items
+unanswered_of t = t.taken + length t.behind
 
 -- Of a text that isn't answered: all of it is in the parser, and is less than a request; or it begins with what waits, and the rest
 -- came behind that. Without a parser nothing more is read: no request begins there; or the connection was given up, as where memory is
@@ -28,7 +28,7 @@ UnansweredBy None None spent taken behind text = IsTrue spent × ¬ (text ≡ []
 
 -- the text isn't answered; no more bytes are counted than it has, and each of them while more is read
 pub record HoldsUnanswered (t : Talk) (text : List ℕ) : Type 0 where
-  pub unread : UnansweredBy t.parser t.waiting t.is_spent t.taken t.behind.items text
+  pub unread : UnansweredBy t.parser t.waiting t.is_spent t.taken t.behind text
   pub no_more : unanswered_of t ≤ length text
   pub counted : IsSome t.parser → unanswered_of t ≡ length text
 
@@ -69,8 +69,8 @@ is_done t = is_none t.parser && is_none t.waiting && length t.output.items == 0
 -- bytes are kept behind what waits; or some aren't, since memory for them isn't there, and the connection is given up
 abbrev pub KeepsBehind : Talk → Talk → List ℕ → Type 0
 KeepsBehind old new bytes =
-    ((new ≡ record old { behind = new.behind }) × (new.behind.items ≡ old.behind.items ++ bytes))
-    ⊎ (¬ (bytes ≡ []) × (new ≡ record old { parser = None; behind = new.behind; is_spent = true }) × (new.behind.items ≡ []))
+    ((new ≡ record old { behind = new.behind }) × (new.behind ≡ old.behind ++ bytes))
+    ⊎ (¬ (bytes ≡ []) × (new ≡ record old { parser = None; behind = new.behind; is_spent = true }) × (new.behind ≡ []))
 
 -- ---- a round
 

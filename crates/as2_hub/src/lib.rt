@@ -8,6 +8,7 @@ mod desk;
 mod hub;
 mod input;
 mod laws;
+mod rest;
 mod talk;
 
 pub use beginning::Beginning;

@@ -8,6 +8,7 @@ ghost use Rattle.as2_messages.specs.declared.parser.RequestParser.{RequestParser
 
 use crate::beginning::Beginning;
 use crate::desk::{Desk, Reply, reply_to};
+use crate::rest::Rest;
 use as2_messages::{Parsed, RequestParser};
 use as2_text::Memory;
 use std::alloc::Global;
@@ -24,7 +25,7 @@ pub struct Talk {
     // how many bytes of these the parser has taken
     taken: usize,
     // the bytes that came behind what waits
-    behind: Vec<u8>,
+    behind: Rest,
     // nothing more is read, since memory wasn't there
     is_spent: bool,
     // the reply to what waits, within a round
@@ -44,7 +45,7 @@ impl Talk {
             parser: Some(RequestParser::new(alloc)),
             waiting: None,
             taken: 0,
-            behind: Vec::new(alloc),
+            behind: Rest::new(alloc),
             is_spent: false,
             reply: None,
             output: Vec::new(alloc),
@@ -103,9 +104,9 @@ impl Talk {
         if bytes.is_empty() {
             return;
         }
-        if self.behind.extend_from_slice(bytes).is_err() {
+        if self.behind.append(bytes).is_err() {
             self.parser = None;
-            self.behind = Vec::new(self.alloc);
+            self.behind = Rest::new(self.alloc);
             self.is_spent = true;
         }
     }
@@ -155,25 +156,25 @@ impl Talk {
     fn go_on(&mut self)
         requires free { self.old.waiting ≡ None }
         ensures reads { (p : TheParser) → self.old.parser ≡ Some p → HasTaken p []
-            → HoldsUnanswered self.new self.old.behind.items }
+            → HoldsUnanswered self.new self.old.behind }
         ensures ended { self.old.parser ≡ None → self.new ≡ record self.old { behind = self.new.behind; taken = 0 } }
-        ensures nothing { self.old.parser ≡ None → self.new.behind.items ≡ [] }
-        ensures unread { unanswered_of self.new ≤ length self.old.behind.items }
+        ensures nothing { self.old.parser ≡ None → self.new.behind ≡ [] }
+        ensures unread { unanswered_of self.new ≤ length self.old.behind }
         ensures same_reply { self.new.reply ≡ self.old.reply }
         ensures same_output { self.new.output ≡ self.old.output }
     {
         self.taken = 0;
-        let behind = mem::replace(&mut self.behind, Vec::new(self.alloc));
-        if behind.is_empty() {
+        let behind = mem::replace(&mut self.behind, Rest::new(self.alloc));
+        if behind.len() == 0 {
             return;
         }
         let Some(parser) = self.parser.take() else {
             return;
         };
         let mut behind = behind;
-        let used = self.parse(parser, &behind);
+        let used = self.parse(parser, behind.bytes());
         if used < behind.len() {
-            behind.drain(..used);
+            behind.skip(used);
             self.behind = behind;
         }
     }
@@ -184,7 +185,7 @@ impl Talk {
         ensures others { self.new ≡ record self.old { parser = None; behind = self.new.behind; taken = 0 } }
     {
         self.parser = None;
-        self.behind = Vec::new(self.alloc);
+        self.behind = Rest::new(self.alloc);
         self.taken = 0;
     }
 
