@@ -3,7 +3,6 @@ import re
 import statistics
 import subprocess
 import sys
-import time
 
 from posts import HEAD
 
@@ -22,13 +21,12 @@ def write_posts(path, count):
 
 
 def run(words):
-    """Returns the seconds that the program takes, and what it says."""
-    start = time.perf_counter()
+    """Runs the program, and returns the seconds that it says the answering took, without what came before."""
     done = subprocess.run(words, capture_output=True, text=True, check=False)
-    took = time.perf_counter() - start
     if done.returncode != 0:
         sys.exit(f"{done.stdout}{done.stderr}{words[2]}: status {done.returncode}")
-    return took, done.stdout
+    took = re.search(r" in (\d+) microseconds", done.stdout)
+    return int(took[1]) / 1e6 if took else 0
 
 
 def try_out(agreements, folder):
@@ -52,7 +50,7 @@ def measure(agreements, folder, rounds):
         took = {"hub": [], "stream": []}
         for _ in range(rounds):
             for what, found in took.items():
-                found.append(run([program, agreements, what, *behind])[0])
+                found.append(run([program, agreements, what, *behind]))
         hub, stream = (count / statistics.median(found) for found in took.values())
         print(
             f"{count} posts of {SIZE:,} bytes, {CONNECTIONS} connections, pieces of {piece:6,} bytes: hub {hub:8,.0f} a second,"
