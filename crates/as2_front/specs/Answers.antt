@@ -4,7 +4,7 @@ use Rattle.as2_agreement.specs.Agreements.{AgreedValues}
 use Rattle.as2_exchange.specs.Lines.{refusal}
 use Rattle.as2_exchange.specs.State.{State}
 use Rattle.as2_exchange.specs.declared.answer.HttpAnswer.{HttpAnswer}
-use Rattle.as2_http.specs.Responses.{IsSafe, Responds, http_answer}
+use Rattle.as2_http.specs.Responses.{IsSafe, Responds, http_answer, is_for_station}
 use Rattle.as2_http.specs.Sending.{form_of, refusal_form}
 use Rattle.as2_http.specs.declared.response.Response.{Response}
 use Rattle.as2_hub.specs.Conduct.{Conduct}
@@ -32,11 +32,12 @@ module _ (A : AgreedValues) (moment : ℕ) where
     pub clean : new.IsClean → old.IsClean
     pub answers : new.IsClean → (s : State) → old.Rests s → (t : State) × new.Rests t × AnswersRequest s t (IsSafe new) r text stays
 
--- At its moment and over its agreements the station answers a request; bytes that no request begins with get their reply, and change
--- nothing.
+-- At its moment and over its agreements the station answers a request, and asks nothing of its records but for a post to its path; bytes
+-- that no request begins with get their reply, and change nothing.
 abbrev pub AnswersAt : {M : Medium} {K : Type 0} → (K → Standing M) → StationDesk K → Beginning → List ℕ → Bool → StationDesk K → Type 0
 AnswersAt shows d (beginning.Request r) text stays e =
-    (e ≡ record d { station = e.station }) × AnswersOver d.agreements.now d.moment (shows d.station) (shows e.station) r text stays
+    (e ≡ record d { station = e.station }) × (is_for_station r.method r.target ≡ false → e ≡ d)
+        × AnswersOver d.agreements.now d.moment (shows d.station) (shows e.station) r text stays
 AnswersAt shows d (beginning.NoRequest refused) text stays e =
     (e ≡ d) × GivesReply d.moment (refusal_form refused) (refusal (refusal_line refused.reason)) false text stays
 

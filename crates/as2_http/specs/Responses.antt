@@ -1,5 +1,5 @@
 -- What a request gets in a state of the station, and the state that it leaves, which is Safe where the records were asked.
-use Rattle.std.specs.Prelude.{◌≡◌, ℕ, Some, IsTrue, true, ⊤}
+use Rattle.std.specs.Prelude.{◌≡◌, ℕ, Bool, Some, IsTrue, true, false, ⊤}
 use Rattle.as2_records.specs.Standing.{Medium, Standing}
 use Rattle.as2_agreement.specs.Agreements.{AgreedValues}
 use Rattle.as2_exchange.specs.Lines.{refusal}
@@ -56,6 +56,13 @@ pub record IsSafe {M : Medium} (c : Standing M) (t : State) : Type 0 where
 -- nothing is said of what a crash leaves
 abbrev pub Unsaid : State → Type 0
 Unsaid t = ⊤
+
+-- a request is a post to the station's path
+abbrev pub is_for_station : Method → Target → Bool
+is_for_station Post Station = true
+is_for_station Post OtherTarget = false
+is_for_station Head target = false
+is_for_station OtherMethod target = false
 
 module _ (A : AgreedValues) (moment : ℕ) where
   -- the post is a step of the machine, and where it asks the records, the state that it leaves is safe; or there is a fault, which

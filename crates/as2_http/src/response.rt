@@ -1,7 +1,7 @@
 //! What a request gets over the records of the station.
-ghost use Rattle.std.specs.Prelude.{◌≡◌, []};
+ghost use Rattle.std.specs.Prelude.{◌≡◌, [], false};
 ghost use Rattle.as2_exchange.specs.State.{State};
-ghost use Rattle.as2_http.specs.Responses.{IsSafe, Responds, http_answer, store_fault_line};
+ghost use Rattle.as2_http.specs.Responses.{IsSafe, Responds, http_answer, is_for_station, store_fault_line};
 
 use as2_agreement::Agreements;
 use as2_exchange::{HttpAnswer, Line, StoreFault};
@@ -60,6 +60,8 @@ pub fn respond<K: Records>(
     ensures responds { (K.shows station.new).IsClean → (s : State) → (K.shows station.old).Rests s
         → (t : State) × (K.shows station.new).Rests t
         × Responds agreements.now moment s request result (IsSafe (K.shows station.new)) t }
+    // Nothing is asked of the records but by a post to the station's path.
+    ensures same { is_for_station request.method request.target ≡ false → station.new ≡ station.old }
 {
     let Request {
         method,

@@ -25,7 +25,7 @@ is_open_after c (Loses round ∷ h) = is_open_after c h
 is_open_after c (Goes d piece ∷ h) = is_open_after c h
 is_open_after c (Closes d ∷ h) = if d == c then false else is_open_after c h
 
--- the bytes that came from the connection at that place since it was opened
+-- the bytes that were taken from the connection at that place since it was opened
 abbrev pub bytes_from : ℕ → Happenings → List ℕ
 bytes_from c [] = []
 bytes_from c (Opens d ∷ h) = if d == c then [] else bytes_from c h

@@ -11,10 +11,10 @@ abbrev pub places : Hub → List (Option Talk)
 places hub = hub.talks.items
 
 -- somebody has the place
-abbrev pub is_taken : Option (Option Talk) → Bool
-is_taken None = false
-is_taken (Some None) = false
-is_taken (Some (Some t)) = true
+abbrev pub is_occupied : Option (Option Talk) → Bool
+is_occupied None = false
+is_occupied (Some None) = false
+is_occupied (Some (Some t)) = true
 
 -- there is such a place, and nobody has it
 abbrev pub is_vacant : Option (Option Talk) → Bool

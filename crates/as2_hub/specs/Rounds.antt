@@ -36,8 +36,8 @@ pub record AsksPlaces {S : Type 0} (D : Conduct S) (named : List ℕ) (old new :
   pub made : MakesCalls D old.desk new.desk (places old.hub) (places new.hub)
   pub turns : called_places made.calls ≡ places_asked old.hub named
 
--- The calls of a round answer what the connections begin with that are open, one request of each, behind those that were answered before;
--- and no other calls are made.
+-- The calls of a round answer what the connections begin with that are open, behind those that were answered before; and no other calls
+-- are made.
 abbrev pub AnswersWhatWaits : Happenings → List DeskCall → Type 0
 AnswersWhatWaits h round = (c : ℕ) → MatchBool (is_open_after c h) (AnswersInOrder (bytes_from c h) (calls_at c round ++ calls_of c h)) (calls_at c round ≡ [])
 

@@ -115,7 +115,7 @@ pub record AnswersWaiting {S : Type 0} (D : Conduct S) (desk later : S) (t next 
   pub back : D.may_lose desk ≡ true → next.waiting ≡ t.waiting
   pub on : KeepsUntilSettled D desk later
 
--- the desk answered what waits; or nothing waits, and nothing changed
+-- the desk answered what waits, where its reply may be made; or it may not, and nothing changed
 abbrev pub AsksDesk : {S : Type 0} → Conduct S → S → S → Talk → Talk → Bool → Type 0
 AsksDesk D desk later t next true = AnswersWaiting D desk later t next
 AsksDesk D desk later t next false = (is_ready t ≡ false) × (later ≡ desk) × (next ≡ t)

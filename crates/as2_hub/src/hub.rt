@@ -1,10 +1,10 @@
 //! Many connections, each at its place.
 ghost use Rattle.std.specs.Prelude.{◌≡◌, ◌-◌, ◌^◌, ◌<◌, ◌≤◌, ℕ, List, [], ◌∷◌, ◌++◌, length, min, take, replicate, position, is_none, slice_get, slice_set, None, false, IfOk, IsTrue};
-ghost use Rattle.as2_hub.specs.Bounded.{HoldsNoMore, IsWithinBounds, KeepsBounds};
+ghost use Rattle.as2_hub.specs.Bounded.{HoldsNoMore, IsWithinBounds, KeepsBounds, unanswered_in};
 ghost use Rattle.as2_hub.specs.Calls.{DeskCall};
 ghost use Rattle.as2_hub.specs.Happenings.{Happenings, Opens, Comes, Keeps, Goes, Closes};
 ghost use Rattle.as2_hub.specs.Inputs.{ChangesPlaces, StopsBefore, comes_if, fits_in, piece_fits};
-ghost use Rattle.as2_hub.specs.Places.{OpensTalk, PlaceStands, SetsOutput, SetsTalk, StandAmid, StandAfter, ChangesOnlyIfKept, is_done_in, is_reading_in, is_ready_in, is_taken, is_vacant, output_at, place_unanswered, places, room_in, room_left};
+ghost use Rattle.as2_hub.specs.Places.{OpensTalk, PlaceStands, SetsOutput, SetsTalk, StandAmid, StandAfter, ChangesOnlyIfKept, is_done_in, is_reading_in, is_ready_in, is_occupied, is_vacant, output_at, place_unanswered, places, room_in, room_left};
 ghost use Rattle.as2_hub.specs.Promises.{KeepsPromises, Takes};
 ghost use Rattle.as2_hub.specs.Rounds.{AsksPlace, AsksPlaces, SettlesRound, scene};
 
@@ -51,7 +51,7 @@ impl Hub {
 
     /// A connection has this place.
     pub fn is_open(&self, at: usize) -> bool
-        ensures { result ≡ is_taken (slice_get (places self.now) at) }
+        ensures { result ≡ is_occupied (slice_get (places self.now) at) }
     {
         match self.talks.get(at) {
             Some(Some(_)) => true,
@@ -86,6 +86,16 @@ impl Hub {
     {
         if at < self.talks.len() {
             self.talks[at] = None;
+        }
+    }
+
+    /// How many bytes of it came that aren't answered.
+    pub fn unanswered(&self, at: usize) -> usize
+        ensures { result ≡ min (unanswered_in (slice_get (places self.now) at)) (2 ^ 64 - 1) }
+    {
+        match self.talks.get(at) {
+            Some(talk) => unanswered(talk),
+            None => 0,
         }
     }
 
