@@ -37,7 +37,7 @@ module _ (A : AgreedValues) (moment : ℕ) where
 abbrev pub AnswersAt : {M : Medium} {K : Type 0} → (K → Standing M) → StationDesk K → Beginning → List ℕ → Bool → StationDesk K → Type 0
 AnswersAt shows d (beginning.Request r) text stays e =
     (e ≡ record d { station = e.station }) × (is_for_station r.method r.target ≡ false → e ≡ d)
-        × AnswersOver d.agreements.now d.moment (shows d.station) (shows e.station) r text stays
+    × AnswersOver d.agreements.now d.moment (shows d.station) (shows e.station) r text stays
 AnswersAt shows d (beginning.NoRequest refused) text stays e =
     (e ≡ d) × GivesReply d.moment (refusal_form refused) (refusal (refusal_line refused.reason)) false text stays
 
