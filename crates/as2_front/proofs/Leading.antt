@@ -120,7 +120,7 @@ module _ {M : Medium} {K : Type 0} (shows : K → Standing M) where
   call_on old new e it = go e.asked refl it
     where
       go : (b : Beginning) → e.asked ≡ b → AnswersAt shows old b e.reply e.stays new → LeadsOn (e ∷ []) old new
-      go (beginning.Request r) is it = asked_on old new e r is it.0 it.1.1
+      go (beginning.Request r) is it = asked_on old new e r is it.0 it.2
       go (beginning.NoRequest refused) is it = refused_on old new e refused is it.0 it.1
 
   on_none : (old new : StationDesk K) → new ≡ old → LeadsOn [] old new
