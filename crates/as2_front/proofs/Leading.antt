@@ -6,7 +6,7 @@ use Rattle.as2_agreement.specs.Agreements.{AgreedValues}
 use Rattle.as2_exchange.specs.Lines.{refusal}
 use Rattle.as2_exchange.specs.Run.{Run, Trace}
 use Rattle.as2_exchange.specs.State.{State}
-use Rattle.as2_http.specs.Responses.{IsSafe, Unsaid}
+use Rattle.as2_http.specs.Responses.{IsSafe}
 use Rattle.as2_http.specs.Sending.{refusal_form}
 use Rattle.as2_http.specs.Streams.{RequestAndResponse, stream_events}
 use Rattle.as2_http.proofs.Serving.{event_then, events_join}

@@ -1,5 +1,5 @@
 -- How the station answers, as a desk of many connections.
-use Rattle.std.specs.Prelude.{◌≡◌, ◌⊎◌, ℕ, not, Bool, true, false, List, [], ⊤}
+use Rattle.std.specs.Prelude.{◌≡◌, ◌⊎◌, ℕ, not, Bool, false, List, [], ⊤}
 use Rattle.as2_agreement.specs.Agreements.{AgreedValues}
 use Rattle.as2_exchange.specs.Lines.{refusal}
 use Rattle.as2_exchange.specs.State.{State}
