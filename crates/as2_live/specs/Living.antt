@@ -1,0 +1,85 @@
+-- What happens to a live station, and where it leads.
+use Rattle.std.specs.Prelude.{◌≡◌, ℕ, List, [], ◌∷◌, ◌++◌, map}
+use Rattle.as2_agreement.specs.Agreements.{AgreedValues}
+use Rattle.as2_exchange.specs.Run.{Run, Trace}
+use Rattle.as2_exchange.specs.State.{State}
+use Rattle.as2_http.specs.Streams.{RequestAndResponse, stream_events}
+use Rattle.as2_hub.specs.Bounded.{KeepsBounds}
+use Rattle.as2_hub.specs.Calls.{DeskCall}
+use Rattle.as2_hub.specs.Happenings.{Happening, Happenings, Opens, Comes, Keeps, Loses, Goes, Closes}
+use Rattle.as2_hub.specs.Places.{StandAfter, places}
+use Rattle.as2_hub.specs.Rounds.{AnswerWhatWaited}
+use Rattle.as2_hub.specs.Turns.{called_places, places_asked}
+use Rattle.as2_front.specs.Serving.{AnswersCalls}
+use Rattle.as2_records.specs.Standing.{Medium, Standing}
+use Rattle.as2_station.specs.Theorem.{EndsByHistory}
+use Rattle.as2_live.specs.declared.live.Live.{Live}
+
+-- ---- what happens
+
+-- what happens to a live station
+pub data LiveHappening : Type 0 where
+  -- a connection is opened or closed, bytes come from it or go to it
+  AtAPlace : (what : Happening) → LiveHappening
+  -- at this moment these calls of the desk answer what the connections ask, the newest first
+  Answers : (moment : ℕ) (round : List DeskCall) → LiveHappening
+
+-- the newest first
+abbrev pub LiveHistory : Type 0
+LiveHistory = List LiveHappening
+
+-- these happen at places
+abbrev pub all_at_places : Happenings → LiveHistory
+all_at_places = map AtAPlace
+
+-- what of it happens at the connections
+abbrev pub at_places : LiveHistory → Happenings
+at_places [] = []
+at_places (AtAPlace what ∷ h) = what ∷ at_places h
+at_places (Answers moment round ∷ h) = Keeps round ∷ at_places h
+
+-- ---- where it leads
+
+-- From the state s what happened leads to t: each round answers its calls one after the other, from the state that was left before, and
+-- nothing else changes the state. The trace has the posts among them, in the order in which they were answered.
+abbrev pub LeadsTo : AgreedValues → State → LiveHistory → Trace → State → Type 0
+LeadsTo A s [] trace t = (trace ≡ []) × (t ≡ s)
+LeadsTo A s (AtAPlace (Opens c) ∷ h) trace t = LeadsTo A s h trace t
+LeadsTo A s (AtAPlace (Comes c piece) ∷ h) trace t = LeadsTo A s h trace t
+LeadsTo A s (AtAPlace (Goes c piece) ∷ h) trace t = LeadsTo A s h trace t
+LeadsTo A s (AtAPlace (Closes c) ∷ h) trace t = LeadsTo A s h trace t
+LeadsTo A s (AtAPlace (Keeps round) ∷ h) trace t = ⊥
+LeadsTo A s (AtAPlace (Loses round) ∷ h) trace t = ⊥
+LeadsTo A s (Answers moment round ∷ h) trace t = (mid : State) × (before : Trace) × (done : List RequestAndResponse) × LeadsTo A s h before mid
+    × AnswersCalls A moment mid round done t × (trace ≡ before ++ stream_events moment done)
+
+module _ {M : Medium} {K : Type 0} (shows : K → Standing M) where
+  -- From the state s it led to one that the records now stand for; the trace is a run of the machine, and what stands of each document is its
+  -- history.
+  pub record LivesFrom (new : Live K) (A : AgreedValues) (h : LiveHistory) (s : State) : Type 0 where
+    pub trace : Trace
+    pub left : State
+    pub rests : (shows new.desk.station).Rests left
+    pub leads : LeadsTo A s h trace left
+    pub run : Run A s trace left
+    pub by_history : EndsByHistory A s trace left
+
+  -- This happened in between. Whatever happened before, the connections stand as after it, and what waited was answered and nothing else;
+  -- and the records stand for the state that it led to.
+  pub record LivesBy (old : Live K) (history : LiveHistory) (new : Live K) : Type 0 where
+    pub stands : (h : Happenings) → StandAfter (places old.hub) h → StandAfter (places new.hub) (at_places history ++ h)
+    pub answer : (h : Happenings) → StandAfter (places old.hub) h → AnswerWhatWaited h → AnswerWhatWaited (at_places history ++ h)
+    pub bounded : KeepsBounds old.hub new.hub
+    pub agreed : new.desk.agreements ≡ old.desk.agreements
+    pub clean : (shows new.desk.station).IsClean → (shows old.desk.station).IsClean
+    pub lives : (shows new.desk.station).IsClean → (s : State) → (shows old.desk.station).Rests s
+        → LivesFrom new old.desk.agreements.now history s
+
+  -- something happened in between
+  abbrev pub LivesOn : Live K → Live K → Type 0
+  LivesOn old new = (history : LiveHistory) × LivesBy old history new
+
+  -- at this moment a round answered what waits at the places that it asks
+  abbrev pub AnswersPlaces : Live K → ℕ → List ℕ → Live K → Type 0
+  AnswersPlaces old moment named new = (round : List DeskCall) × (called_places round ≡ places_asked old.hub named)
+      × LivesBy old (Answers moment round ∷ []) new
