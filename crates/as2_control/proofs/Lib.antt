@@ -1,0 +1,6 @@
+mod Beginnings
+mod Bodies
+mod Lengths
+mod Messages
+mod Sequences
+mod Texts

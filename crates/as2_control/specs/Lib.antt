@@ -1,0 +1,4 @@
+pub mod Coming
+pub mod Demands
+pub mod Frames
+pub mod Outcomes
