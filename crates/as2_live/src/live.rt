@@ -46,6 +46,7 @@ impl<'a, K: Records> Live<'a, K> {
     /// A connection is opened at this place. False: there is no such place, or somebody has it, and nothing changes.
     pub fn open(&mut self, at: usize) -> bool
         ensures vacant { result ≡ is_vacant (slice_get (places self.old.hub) at) }
+        ensures desk { self.new.desk ≡ self.old.desk }
         ensures lives { LivesBy K.shows self.old (all_at_places (opens_if at result)) self.new }
     {
         self.hub.open(at)
@@ -53,6 +54,7 @@ impl<'a, K: Records> Live<'a, K> {
 
     /// It is closed.
     pub fn close(&mut self, at: usize)
+        ensures desk { self.new.desk ≡ self.old.desk }
         ensures lives { LivesBy K.shows self.old (all_at_places (Closes at ∷ [])) self.new }
     {
         self.hub.close(at);
@@ -61,6 +63,7 @@ impl<'a, K: Records> Live<'a, K> {
     /// Takes bytes that came from it, as many of the first as may be read, and answers how many.
     pub fn hear(&mut self, at: usize, piece: &[u8]) -> usize
         ensures count { result ≡ min (room_in self.old.hub (slice_get (places self.old.hub) at)) (length piece.now) }
+        ensures desk { self.new.desk ≡ self.old.desk }
         ensures lives { LivesBy K.shows self.old (all_at_places (comes_if true at (take result piece.now))) self.new }
     {
         self.hub.hear(at, piece)
@@ -69,6 +72,7 @@ impl<'a, K: Records> Live<'a, K> {
     /// As many as this of the bytes that are to be written to it went, or all. Answers how many.
     pub fn sent(&mut self, at: usize, most: usize) -> usize
         ensures count { result ≡ min most (length (output_at (slice_get (places self.old.hub) at))) }
+        ensures desk { self.new.desk ≡ self.old.desk }
         ensures lives { LivesBy K.shows self.old
             (all_at_places (goes_to at (take result (output_at (slice_get (places self.old.hub) at))))) self.new }
     {
