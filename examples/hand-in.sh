@@ -1,8 +1,8 @@
 #!/bin/sh
 # Hands in each file of a folder, once, and moves it to FOLDER/sent under its number. Run it again after a stop: a file whose number
 # was given before the stop is known by the count of documents, which is written down first. So nobody else may hand documents in
-# to this store meanwhile. Names that begin with a dot, or end in .part or .tmp, are left alone: write a file under such a name, and
-# rename it once it is whole.
+# to this store meanwhile; a station may run over it. Names that begin with a dot, or end in .part or .tmp, are left alone: write a
+# file under such a name, and rename it once it is whole.
 # hand-in.sh AGREEMENTS STORE ORGANIZATION PARTNER FOLDER [PROGRAM]
 set -eu
 agreements=$1 store=$2 from=$3 to=$4 folder=$5 program=${6:-as2desk}
@@ -34,7 +34,10 @@ for file in "$folder"/*; do
     printf '%s\n%s\n' "$before" "$name" > "$folder/.writing"
     mv "$folder/.writing" "$folder/.begun"
     status=0
-    number=$(station submit --from "$from" --to "$to" "$file") || status=$?
+    number=$(station submit --from "$from" --to "$to" "$file" 2> "$folder/.said") || status=$?
+    cat "$folder/.said" >&2
+    # (the station ended before it answered: the next run looks whether it took the file)
+    ! grep -qx 'refused: NoStation' "$folder/.said" || exit 2
     if [ "$status" -eq 0 ]; then
         mv "$file" "$folder/sent/$number-$name"
     else

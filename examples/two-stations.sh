@@ -1,15 +1,24 @@
 #!/bin/sh
-# Two stations on this machine exchange documents: Supplier's, and that of three firms, Buyer, Depot and Archive. Buyer sends its receipts in
-# the answer, Depot later, Archive none. Then the receiving station is killed between two posts, and goes on with its records.
-# All lies in a temporary folder, which is removed at the end. What differs from what is wanted ends the script with status 1.
+# Two stations run on this machine and exchange documents: Supplier's, and that of three firms, Buyer, Depot and Archive. Buyer sends its
+# receipts in the answer, Depot later, Archive none. A station that runs doesn't send yet: whose turn it is to send is stopped for it. Then the
+# receiving station is killed between two posts, and goes on with its records, the last time by `serve`. All lies in a temporary folder, which is
+# removed at the end. What differs from what is wanted ends the script with status 1.
 #
 # The program is ./as2desk, or the file that the argument names.
 set -eu
 top=$(cd "$(dirname "$0")/.." && pwd)
 program=$(realpath "${1:-$top/as2desk}")
 work=$(mktemp -d)
-serving=
-trap '[ -z "$serving" ] || kill "$serving" 2>/dev/null; rm -rf "$work"' EXIT
+
+# Ends what still runs, and takes the folder away.
+leave() {
+    for process in "$work"/*.process; do
+        [ ! -e "$process" ] || kill "$(cat "$process")" 2>/dev/null || true
+    done
+    rm -rf "$work"
+}
+
+trap leave EXIT
 trap 'exit 1' INT TERM
 cd "$work"
 "$program" --version >/dev/null
@@ -37,26 +46,39 @@ firms() {
     "$program" --agreements firms.toml --store firms.db --moment $moment "$@"
 }
 
-# Has a station serve so many connections at an address: the command, how many, the address. The port is in `port` then.
-start() {
-    : >said
-    "$program" --agreements "$1.toml" --store "$1.db" --moment $moment serve --listen "$3" --count "$2" >ends 2>said </dev/null &
-    serving=$!
+# Has a station listen at an address: its name, the address, and the command, `run` or `serve` with its options. The port is in `port` then.
+listen() {
+    name=$1 address=$2
+    shift 2
+    : >"$name.said"
+    "$program" --agreements "$name.toml" --store "$name.db" --moment $moment "$@" --listen "$address" >"$name.ends" 2>"$name.said" </dev/null &
+    echo $! >"$name.process"
     for _ in $(seq 500); do
-        port=$(sed -n 's/^listening: 127\.0\.0\.1://p' said)
+        port=$(sed -n 's/^listening: 127\.0\.0\.1://p' "$name.said")
         [ -z "$port" ] || return 0
-        kill -0 "$serving" 2>/dev/null || break
+        kill -0 "$(cat "$name.process")" 2>/dev/null || break
         sleep 0.02
     done
-    check "$1 listens" "listening: $3" "$(cat said)"
+    check "$name listens" "listening: $address" "$(cat "$name.said")"
 }
 
-# Waits until it has served them, and checks how they ended.
+# Has a station run: its name, the address.
+start() {
+    listen "$1" "$2" run
+}
+
+# Waits until a station has ended, and checks its status.
 finish() {
-    wait "$serving" && ended=0 || ended=$?
-    serving=
-    check "the status of serve" "status 0" "status $ended"
-    check "how the connections ended" "$1" "$(cat ends)"
+    wait "$(cat "$1.process")" && ended=0 || ended=$?
+    rm "$1.process"
+    check "the status of the station" "$2" "status $ended"
+}
+
+# Stops a station that runs, and checks what it said since its store was open, without the moments.
+stop() {
+    check "what stop says" "" "$("$1" stop)"
+    finish "$1" "status 0"
+    check "what the station did" "$2" "$(sed 1,2d "$1.said" | sed 's/^[0-9T:-]*Z //')"
 }
 
 # The agreements: who each station is, and where and on what terms its partners are reached. The port of Supplier's station, and that
@@ -103,13 +125,11 @@ END
 
 # The port that the system chooses for a station.
 choose() {
-    start "$1" 1 127.0.0.1:0
-    kill "$serving"
-    wait "$serving" 2>/dev/null || true
-    serving=
+    start "$1" 127.0.0.1:0
+    stop "$1" "command stop 0"
 }
 
-tell "Each station listens once, and is told a free port. Then each has its agreements with the other."
+tell "Each station runs once, and is told a free port. Then each has its agreements with the other."
 agreements 1 1
 choose firms
 firms_port=$port
@@ -119,23 +139,33 @@ agreements "$supplier_port" "$firms_port"
 check "the agreements of Supplier" "organizations 1, partners 3" "$(supplier check)"
 check "the agreements of the firms" "organizations 3, partners 1" "$(firms check)"
 
-tell "Supplier takes an order for Buyer, a list for Depot and a report for Archive, and numbers them."
+tell "Both run. Supplier's takes an order for Buyer, a list for Depot and a report for Archive while it runs, and numbers them. It doesn't send
+meanwhile, and does nothing under other agreements."
+start firms "127.0.0.1:$firms_port"
+start supplier "127.0.0.1:$supplier_port"
 printf 'ISA*00*order of 12 crates of apples~\r\n' >order
 printf 'ISA*00*list~' >list
 printf 'ISA*00*report\000\377~' >report
 check "the order's number" 1 "$(supplier submit --from Supplier --to Buyer order)"
 check "the list's number" 2 "$(supplier submit --from Supplier --to Depot list)"
 check "the report's number" 3 "$(supplier submit --from Supplier --to Archive report)"
+check "send, while it runs" "refused: StationRuns" "$(supplier send 2>&1)"
+check "under other agreements" "refused: OtherAgreements" "$("$program" --agreements firms.toml --store supplier.db list out 2>&1)"
+check "list out of Supplier" "           1 P  0 - new              Supplier -> Buyer
+           2 P  0 - new              Supplier -> Depot
+           3 P  0 - new              Supplier -> Archive" "$(supplier list out)"
 
-tell "The firms' station serves three connections, and Supplier sends. Buyer's receipt is in the answer and settles the order;
-Depot's is to come; Archive is asked for none."
-start firms 3 "127.0.0.1:$firms_port"
+tell "It is stopped, and Supplier sends. Buyer's receipt is in the answer and settles the order; Depot's is to come; Archive is asked for none."
+stop supplier "command submit 0
+command submit 0
+command submit 0
+command list 1
+command list 0
+command stop 0"
 check "what Supplier sent" "document 1: settled S processed
 document 2: delivered
 document 3: delivered" "$(supplier send)"
-finish "connection: Closed
-connection: Closed
-connection: Closed"
+start supplier "127.0.0.1:$supplier_port"
 check "list out of Supplier" "           1 S  1 R processed        Supplier -> Buyer
            2 P  1 - awaiting         Supplier -> Depot
            3 W  1 - no-receipt-asked Supplier -> Archive" "$(supplier list out)"
@@ -143,10 +173,14 @@ check "list in of the firms" "           1 S S Supplier -> Buyer <out-1@supplier
            2 S P Supplier -> Depot <out-2@supplier.example>
            3 S - Supplier -> Archive <out-3@supplier.example>" "$(firms list in)"
 
-tell "Supplier serves one connection, and the firms' station sends the receipt that Depot owes. It settles the list."
-start supplier 1 "127.0.0.1:$supplier_port"
+tell "The firms' station is stopped, and sends the receipt that Depot owes. Supplier's runs, and takes it. It settles the list."
+stop firms "post Supplier -> Buyer <out-1@supplier.example> 200 processed
+post Supplier -> Depot <out-2@supplier.example> 202
+post Supplier -> Archive <out-3@supplier.example> 200
+command list 0
+command stop 0"
 check "what the firms sent" "receipt 2: delivered" "$(firms send)"
-finish "connection: Closed"
+start firms "127.0.0.1:$firms_port"
 check "the list's line" "           2 S  1 R processed        Supplier -> Depot" "$(supplier list out | sed -n 2p)"
 
 tell "The order as Supplier has it, and its content as Buyer has it: the same bytes."
@@ -168,33 +202,45 @@ documents in retry: 0
 receipts awaited: 0
 documents in error: 0
 receipts to send: 0" "$(supplier outstanding)"
+check "verify" "verified: 0 received, 3 sent, 0 findings" "$(supplier verify)"
+stop firms "command fetch 0
+command fetch 0
+command stop 0"
+stop supplier "command list 0
+post Depot -> Supplier <mdn-2@firms.example> 200
+command list 0
+command show 0
+command outstanding 0
+command verify 0
+command stop 0"
 
 if command -v sqlite3 >/dev/null; then
-    tell "The records are SQLite files, which its own program reads: sqlite3 firms.db 'SELECT ..'"
+    tell "The records are SQLite files, which its own program reads while no station runs: sqlite3 firms.db 'SELECT ..'"
     check "the inbox by sqlite3" "1|<out-1@supplier.example>|38
 2|<out-2@supplier.example>|12
 3|<out-3@supplier.example>|16" "$(sqlite3 -list firms.db 'SELECT number, CAST(identifier AS TEXT), length FROM inbox2 ORDER BY number')"
     check "the file is whole" "ok" "$(sqlite3 firms.db 'PRAGMA integrity_check')"
 fi
 
-tell "The firms' station serves again. An order arrives, and then it is killed, as by a power cut (kill -9). Supplier's next order finds
+tell "The firms' station runs again. An order arrives, and then it is killed, as by a power cut (kill -9). Supplier's next order finds
 nobody there, and is to be tried once more in 30 seconds."
 moment=2000
-start firms 10 "127.0.0.1:$firms_port"
+start firms "127.0.0.1:$firms_port"
 check "the next order's number" 4 "$(supplier submit --from Supplier --to Buyer order)"
 check "what Supplier sent" "document 4: settled S processed" "$(supplier send)"
-kill -9 "$serving"
-wait "$serving" 2>/dev/null || true
-serving=
+kill -9 "$(cat firms.process)"
+finish firms "status 137" 2>/dev/null
 check "the number of the one after" 5 "$(supplier submit --from Supplier --to Buyer list)"
-check "what Supplier sent meanwhile" "document 5: try failed" "$(supplier send)"
+check "what Supplier sent meanwhile" "document 5: try failed" "$(supplier send 2>hint)"
+check "why" "hint: document 5: connection refused" "$(cat hint)"
 check "nothing is due yet" "" "$(supplier send)"
 
-tell "It serves once more, over the same records. Supplier tries again. Nothing is lost, and nothing is there twice."
+tell "It serves one connection more, over the same records, by 'serve'. Supplier tries again. Nothing is lost, and nothing is there twice."
 moment=2030
-start firms 1 "127.0.0.1:$firms_port"
+listen firms "127.0.0.1:$firms_port" serve --count 1
 check "what Supplier sent after that" "document 5: settled S processed" "$(supplier send)"
-finish "connection: Closed"
+finish firms "status 0"
+check "how the connection ended" "connection: Closed" "$(cat firms.ends)"
 check "list in of the firms after that" "           1 S S Supplier -> Buyer <out-1@supplier.example>
            2 S S Supplier -> Depot <out-2@supplier.example>
            3 S - Supplier -> Archive <out-3@supplier.example>

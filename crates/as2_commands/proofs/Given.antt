@@ -11,8 +11,8 @@ use Rattle.as2_views.specs.declared.filter.Filter.{Filter}
 use Rattle.as2_views.specs.declared.filter.Filter.TheVariants.{Outbox, Inbox}
 use Rattle.as2_audit.specs.declared.findings.Mailbox.{Mailbox}
 use Rattle.as2_commands.specs.CommandLine.{command_in, option_values}
-use Rattle.as2_commands.specs.Options.{AsksEvidence, AsksRun, AsksServe, AsksSubmit, Gives, IsFormat, Lists, is_state_ignored, NameIs, NumberIs, SecondsAre, Tasks, Tell, TellQuestion, TellsOption, question_word, word_of}
-use Rattle.as2_commands.specs.Requests.{GivenServing, GivenSubmission, GivenEvidence}
+use Rattle.as2_commands.specs.Options.{AsksEvidence, AsksOperate, AsksRun, AsksServe, AsksSubmit, Gives, IsFormat, Lists, is_state_ignored, NameIs, NumberIs, SecondsAre, Tasks, Tell, TellQuestion, TellsOption, question_word, word_of}
+use Rattle.as2_commands.specs.Requests.{GivenOperating, GivenServing, GivenSubmission, GivenEvidence}
 use Rattle.as2_commands.specs.declared.tasks.Command.{Command}
 use Rattle.as2_commands.specs.declared.tasks.Command.TheVariants as command
 use Rattle.as2_commands.specs.declared.tasks.Format.{Format}
@@ -21,7 +21,7 @@ use Rattle.as2_commands.specs.declared.tasks.Question.{Question}
 use Rattle.as2_commands.specs.declared.tasks.Question.TheVariants as question
 use Rattle.as2_commands.specs.declared.tasks.RunOptions.{RunOptions}
 use Rattle.as2_commands.specs.declared.tasks.Task.{Task}
-use Rattle.as2_commands.specs.declared.tasks.Task.TheVariants.{Check, Migrate, Verify, GatherEvidence, Run}
+use Rattle.as2_commands.specs.declared.tasks.Task.TheVariants.{Check, Migrate, Verify, GatherEvidence, Run, Operate, Stop}
 use Rattle.as2_commands.specs.declared.tasks.ServingWaits.{ServingWaits}
 use Rattle.as2_commands.specs.declared.tasks.Waits.{Waits}
 
@@ -73,6 +73,14 @@ serving_one values own a b x y =
     (number_one _ a.waits.seconds b.waits.seconds x.wait.number y.wait.number) (number_one _ a.waits.idle b.waits.idle x.idle.number y.idle.number))
     ∙ ap (λ (m : Option ℕ). record b { moment = m }) (told_one _ a.moment b.moment x.seconds.0 y.seconds.0)
 
+operating_one : (values own : List Row) (a b : GivenOperating) → AsksOperate values own a → AsksOperate values own b → a ≡ b
+operating_one values own a b x y =
+    ap (λ (t : List ℕ). record a { address = t }) (path_one _ a.address b.address x.listens y.listens)
+    ∙ ap (λ (c : Option (List ℕ)). record a { address = b.address; control = c }) (sym x.control ∙ y.control)
+    ∙ ap (λ (w : ServingWaits). record b { waits = w; moment = a.moment }) (serving_waits_one a.waits b.waits
+    (number_one _ a.waits.seconds b.waits.seconds x.wait.number y.wait.number) (number_one _ a.waits.idle b.waits.idle x.idle.number y.idle.number))
+    ∙ ap (λ (m : Option ℕ). record b { moment = m }) (told_one _ a.moment b.moment x.seconds.0 y.seconds.0)
+
 -- the state of a letter
 state_from : Text → DetailClass
 state_from [] = class.P
@@ -104,6 +112,10 @@ filter_one kind state (Outbox o) (Outbox p) x y = ap Outbox (letters_one o p (sy
 -- the words of the commands differ in their first and third letters
 mark : Text → ℕ
 mark word = slice_index word 0 * 1000 + slice_index word 2
+
+-- .. but those of `show` and `stop` in their second
+second : Text → ℕ
+second word = slice_index word 1
 
 apart : (m n : ℕ) → m < n → m ≡ n → ⊥
 apart m n less is = omega (arith, less, is)
@@ -321,6 +333,78 @@ verify_evidence : codes "verify" ≡ codes "evidence" → ⊥
 unfolding mark
 verify_evidence is = absurd (apart 101105 118114 (lit< tt) (ap mark (sym is)))
 
+-- nor is `run`
+no_run_question : (q : Question GivenSubmission) → codes "run" ≡ question_word q → ⊥
+unfolding mark
+no_run_question (question.Submit s) is = absurd (apart 114110 115098 (lit< tt) (ap mark is))
+no_run_question question.Tick is = absurd (apart 114110 116099 (lit< tt) (ap mark is))
+no_run_question (question.Resend s) is = absurd (apart 114110 114115 (lit< tt) (ap mark is))
+no_run_question (question.List s i f) is = absurd (apart 108115 114110 (lit< tt) (ap mark (sym is)))
+no_run_question (question.Outstanding f) is = absurd (apart 111116 114110 (lit< tt) (ap mark (sym is)))
+no_run_question (question.Show s f) is = absurd (apart 114110 115111 (lit< tt) (ap mark is))
+no_run_question (question.Fetch s) is = absurd (apart 102116 114110 (lit< tt) (ap mark (sym is)))
+
+no_run : (command : Command GivenSubmission) → codes "run" ≡ word_of command → ⊥
+unfolding mark
+no_run (command.Post p) is = absurd (apart 112115 114110 (lit< tt) (ap mark (sym is)))
+no_run (command.Ask q) is = no_run_question q is
+no_run (command.Send s) is = absurd (apart 114110 115110 (lit< tt) (ap mark is))
+no_run (command.Serve s) is = absurd (apart 114110 115114 (lit< tt) (ap mark is))
+
+-- nor is `stop`
+no_stop_question : (q : Question GivenSubmission) → codes "stop" ≡ question_word q → ⊥
+unfolding mark second
+no_stop_question (question.Submit s) is = absurd (apart 115098 115111 (lit< tt) (ap mark (sym is)))
+no_stop_question question.Tick is = absurd (apart 115111 116099 (lit< tt) (ap mark is))
+no_stop_question (question.Resend s) is = absurd (apart 114115 115111 (lit< tt) (ap mark (sym is)))
+no_stop_question (question.List s i f) is = absurd (apart 108115 115111 (lit< tt) (ap mark (sym is)))
+no_stop_question (question.Outstanding f) is = absurd (apart 111116 115111 (lit< tt) (ap mark (sym is)))
+no_stop_question (question.Show s f) is = absurd (apart 104 116 (lit< tt) (ap second (sym is)))
+no_stop_question (question.Fetch s) is = absurd (apart 102116 115111 (lit< tt) (ap mark (sym is)))
+
+no_stop : (command : Command GivenSubmission) → codes "stop" ≡ word_of command → ⊥
+unfolding mark
+no_stop (command.Post p) is = absurd (apart 112115 115111 (lit< tt) (ap mark (sym is)))
+no_stop (command.Ask q) is = no_stop_question q is
+no_stop (command.Send s) is = absurd (apart 115110 115111 (lit< tt) (ap mark (sym is)))
+no_stop (command.Serve s) is = absurd (apart 115111 115114 (lit< tt) (ap mark is))
+
+check_run : codes "check" ≡ codes "run" → ⊥
+unfolding mark
+check_run is = absurd (apart 99101 114110 (lit< tt) (ap mark is))
+
+migrate_run : codes "migrate" ≡ codes "run" → ⊥
+unfolding mark
+migrate_run is = absurd (apart 109103 114110 (lit< tt) (ap mark is))
+
+verify_run : codes "verify" ≡ codes "run" → ⊥
+unfolding mark
+verify_run is = absurd (apart 114110 118114 (lit< tt) (ap mark (sym is)))
+
+evidence_run : codes "evidence" ≡ codes "run" → ⊥
+unfolding mark
+evidence_run is = absurd (apart 101105 114110 (lit< tt) (ap mark is))
+
+check_stop : codes "check" ≡ codes "stop" → ⊥
+unfolding mark
+check_stop is = absurd (apart 99101 115111 (lit< tt) (ap mark is))
+
+migrate_stop : codes "migrate" ≡ codes "stop" → ⊥
+unfolding mark
+migrate_stop is = absurd (apart 109103 115111 (lit< tt) (ap mark is))
+
+verify_stop : codes "verify" ≡ codes "stop" → ⊥
+unfolding mark
+verify_stop is = absurd (apart 115111 118114 (lit< tt) (ap mark (sym is)))
+
+evidence_stop : codes "evidence" ≡ codes "stop" → ⊥
+unfolding mark
+evidence_stop is = absurd (apart 101105 115111 (lit< tt) (ap mark is))
+
+run_stop : codes "run" ≡ codes "stop" → ⊥
+unfolding mark
+run_stop is = absurd (apart 114110 115111 (lit< tt) (ap mark is))
+
 wanted_one : (own : List Row) (a b : GivenEvidence) → AsksEvidence own a → AsksEvidence own b → a ≡ b
 wanted_one own a b x y =
     ap (λ (m : Mailbox). record a { mailbox = m }) (x.box ∙ sym y.box)
@@ -355,6 +439,31 @@ task_one values (Some named) clock (GatherEvidence run wanted) (Run other asked)
 task_one values (Some named) clock (Run run asked) (GatherEvidence other wanted) x y = absurd (no_evidence asked (sym y.0 ∙ x.0.0))
 task_one values (Some named) clock Check (Run run asked) x y = absurd (no_check asked (sym x ∙ y.0.0))
 task_one values (Some named) clock (Run run asked) Check x y = absurd (no_check asked (sym y ∙ x.0.0))
+task_one values (Some named) clock Check (Operate other later) x y = absurd (check_run (sym x ∙ y.0))
+task_one values (Some named) clock Check Stop x y = absurd (check_stop (sym x ∙ y))
+task_one values (Some named) clock Migrate (Operate other later) x y = absurd (migrate_run (sym x ∙ y.0))
+task_one values (Some named) clock Migrate Stop x y = absurd (migrate_stop (sym x ∙ y))
+task_one values (Some named) clock (Verify run f) (Operate other later) x y = absurd (verify_run (sym x.0 ∙ y.0))
+task_one values (Some named) clock (Verify run f) Stop x y = absurd (verify_stop (sym x.0 ∙ y))
+task_one values (Some named) clock (GatherEvidence run wanted) (Operate other later) x y = absurd (evidence_run (sym x.0 ∙ y.0))
+task_one values (Some named) clock (GatherEvidence run wanted) Stop x y = absurd (evidence_stop (sym x.0 ∙ y))
+task_one values (Some named) clock (Run run asked) (Operate other later) x y = absurd (no_run asked (sym y.0 ∙ x.0.0))
+task_one values (Some named) clock (Run run asked) Stop x y = absurd (no_stop asked (sym y ∙ x.0.0))
+task_one values (Some named) clock (Operate run station) Check x y = absurd (check_run (sym y ∙ x.0))
+task_one values (Some named) clock (Operate run station) Migrate x y = absurd (migrate_run (sym y ∙ x.0))
+task_one values (Some named) clock (Operate run station) (Verify other g) x y = absurd (verify_run (sym y.0 ∙ x.0))
+task_one values (Some named) clock (Operate run station) (GatherEvidence other wanted) x y = absurd (evidence_run (sym y.0 ∙ x.0))
+task_one values (Some named) clock (Operate run station) (Run other asked) x y = absurd (no_run asked (sym x.0 ∙ y.0.0))
+task_one values (Some named) clock (Operate run station) (Operate other later) x y =
+    ap₂ Operate (run_one values clock run other x.2 y.2) (operating_one values named.1 station later x.1 y.1)
+task_one values (Some named) clock (Operate run station) Stop x y = absurd (run_stop (sym x.0 ∙ y))
+task_one values (Some named) clock Stop Check x y = absurd (check_stop (sym y ∙ x))
+task_one values (Some named) clock Stop Migrate x y = absurd (migrate_stop (sym y ∙ x))
+task_one values (Some named) clock Stop (Verify other g) x y = absurd (verify_stop (sym y.0 ∙ x))
+task_one values (Some named) clock Stop (GatherEvidence other wanted) x y = absurd (evidence_stop (sym y.0 ∙ x))
+task_one values (Some named) clock Stop (Run other asked) x y = absurd (no_stop asked (sym x ∙ y.0.0))
+task_one values (Some named) clock Stop (Operate other later) x y = absurd (run_stop (sym y.0 ∙ x))
+task_one values (Some named) clock Stop Stop x y = refl
 task_one values (Some named) clock (Run run asked) (Run other later) x y =
     ap₂ Run (run_one values clock run other x.1 y.1)
     (command_one values named.1 asked later (sym x.0.0 ∙ y.0.0) x.0.1 y.0.1)

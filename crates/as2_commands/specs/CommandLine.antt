@@ -74,6 +74,10 @@ idle = number 1 3600 (default (codes "2") (option (codes "idle")))
 abbrev pub folder : Rule
 folder = nonempty (default (codes ".") (option (codes "out")))
 
+-- the path at which a station can be asked
+abbrev pub control : Rule
+control = nonempty (option (codes "control"))
+
 -- how many connections are served
 abbrev pub count_option : Rule
 count_option = number 1 1000000 (must_be_there (option (codes "count")))
@@ -111,6 +115,9 @@ evidence_command = command (codes "evidence") (entry ∷ flag (codes "received")
 abbrev pub serve_command : Shape
 serve_command = command (codes "serve") (must_be_there (option (codes "listen")) ∷ count_option ∷ timeout ∷ idle ∷ [])
 
+abbrev pub run_command : Shape
+run_command = command (codes "run") (must_be_there (option (codes "listen")) ∷ control ∷ timeout ∷ idle ∷ [])
+
 abbrev pub commands : List Shape
 commands =
     command (codes "check") []
@@ -127,6 +134,8 @@ commands =
     ∷ show_command
     ∷ command (codes "fetch") (entry ∷ [])
     ∷ serve_command
+    ∷ run_command
+    ∷ command (codes "stop") []
     ∷ []
 
 -- as2desk OPTIONS, and behind that a command

@@ -11,7 +11,7 @@ use Rattle.clap.specs.Words.{Row, Text, first_of, one_of}
 use Rattle.as2_commands.specs.CommandLine.{command_in, faults, option_values}
 use Rattle.as2_audit.specs.declared.findings.Mailbox.{Mailbox}
 use Rattle.as2_audit.specs.declared.findings.Mailbox.TheVariants as mailbox
-use Rattle.as2_commands.specs.Requests.{GivenServing, GivenSubmission, GivenEvidence}
+use Rattle.as2_commands.specs.Requests.{GivenOperating, GivenServing, GivenSubmission, GivenEvidence}
 use Rattle.as2_commands.specs.declared.tasks.Command.{Command}
 use Rattle.as2_commands.specs.declared.tasks.Command.TheVariants.{Post, Ask, Send, Serve}
 use Rattle.as2_commands.specs.declared.tasks.Format.{Format}
@@ -20,7 +20,7 @@ use Rattle.as2_commands.specs.declared.tasks.Question.{Question}
 use Rattle.as2_commands.specs.declared.tasks.Question.TheVariants.{Submit, Tick, Resend, List as Listing, Outstanding, Show, Fetch}
 use Rattle.as2_commands.specs.declared.tasks.RunOptions.{RunOptions}
 use Rattle.as2_commands.specs.declared.tasks.Task.{Task}
-use Rattle.as2_commands.specs.declared.tasks.Task.TheVariants.{Check, Migrate, Verify, GatherEvidence, Run}
+use Rattle.as2_commands.specs.declared.tasks.Task.TheVariants.{Check, Migrate, Verify, GatherEvidence, Run, Operate, Stop}
 
 -- the text says the number in decimal digits; a plus may stand before them
 abbrev pub Says : Text → ℕ → Type 0
@@ -120,6 +120,14 @@ pub record AsksServe (values own : List Row) (s : GivenServing) : Type 0 where
   pub idle : NumberFrom 1 3600 (one_of (codes "idle") own) s.waits.idle
   pub seconds : TellsMoment (one_of (codes "moment") values) s.moment
 
+-- the address, the path, the waits, and the moment where the values before the command give it
+pub record AsksOperate (values own : List Row) (s : GivenOperating) : Type 0 where
+  pub listens : first_of (codes "listen") own ≡ Some s.address
+  pub control : first_of (codes "control") own ≡ s.control
+  pub wait : IsTimeout own s.waits.seconds
+  pub idle : NumberFrom 1 3600 (one_of (codes "idle") own) s.waits.idle
+  pub seconds : TellsMoment (one_of (codes "moment") values) s.moment
+
 -- a flag is there
 abbrev pub is_set : Option Text → Bool
 is_set (Some text) = bytes_eq text (codes "true")
@@ -174,7 +182,7 @@ Tell values own (Serve s) = AsksServe values own s
 abbrev pub Commands : List Row → Text → List Row → Command GivenSubmission → Type 0
 Commands values word own command = (word ≡ word_of command) × Tell values own command
 
--- what the values and the command ask for; a check and a migration need no moment
+-- what the values and the command ask for; a check, a migration and a stop need no moment
 abbrev pub Tasks : List Row → Option (Text × List Row) → Option ℕ → Task → Type 0
 Tasks values None clock task = ⊥
 Tasks values (Some command) clock Check = command.0 ≡ codes "check"
@@ -182,6 +190,8 @@ Tasks values (Some command) clock Migrate = command.0 ≡ codes "migrate"
 Tasks values (Some command) clock (Verify options form) = (command.0 ≡ codes "verify") × IsFormat command.1 form × AsksRun values clock options
 Tasks values (Some command) clock (GatherEvidence options wanted) = (command.0 ≡ codes "evidence") × AsksEvidence command.1 wanted × AsksRun values clock options
 Tasks values (Some command) clock (Run options asked) = Commands values command.0 command.1 asked × AsksRun values clock options
+Tasks values (Some command) clock (Operate options wanted) = (command.0 ≡ codes "run") × AsksOperate values command.1 wanted × AsksRun values clock options
+Tasks values (Some command) clock Stop = command.0 ≡ codes "stop"
 
 -- the paths of the file of agreements and of the store, and what is asked for
 pub record Give (values : List Row) (command : Option (Text × List Row)) (clock : Option ℕ) (path store : Text) (task : Task) : Type 0 where

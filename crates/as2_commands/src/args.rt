@@ -1,7 +1,7 @@
 //! Options and values of commands.
 ghost use Rattle.std.specs.Prelude.{◌≡◌, ◌<◌, ◌≤◌, ◌^◌, codes, false};
 ghost use Rattle.clap.specs.Words.{rule_of};
-ghost use Rattle.as2_commands.specs.CommandLine.{count_option, default, entry, first, flag, folder, format, idle, moment, nonempty, number, option, must_be_there, store, store_limit, timeout, positional};
+ghost use Rattle.as2_commands.specs.CommandLine.{control, count_option, default, entry, first, flag, folder, format, idle, moment, nonempty, number, option, must_be_there, store, store_limit, timeout, positional};
 
 use as2_exchange::END_OF_NUMBERS;
 use as2_text::LAST_MOMENT;
@@ -54,6 +54,9 @@ pub(crate) const RECEIVED: &str = "received";
 pub(crate) const OUT: &str = "out";
 
 pub(crate) const LISTEN: &str = "listen";
+
+/// Where a station that runs can be asked.
+pub(crate) const CONTROL: &str = "control";
 
 /// How many connections are served.
 pub(crate) const COUNT: &str = "count";
@@ -215,6 +218,15 @@ pub(crate) fn folder<'a>(alloc: Global) -> Arg<'a>
 {
     let help = "The folder that the files are made in";
     nonempty(default_option(alloc, OUT, "FOLDER", help, "."))
+}
+
+pub(crate) fn control<'a>(alloc: Global) -> Arg<'a>
+    ensures rule { rule_of result ≡ control }
+    ensures local { result.global ≡ false }
+{
+    let help =
+        "The socket at which the station can be asked [default: the store's path and '.ctl']";
+    nonempty(option(alloc, CONTROL, "PATH", help))
 }
 
 pub(crate) fn format<'a>(alloc: Global) -> Arg<'a>

@@ -26,7 +26,9 @@ pub(crate) fn command<'a>(alloc: Global) -> Made<'a>
     let line = with_command(line, own::outstanding(alloc));
     let line = with_command(line, own::show(alloc));
     let line = with_command(line, own::fetch(alloc));
-    with_command(line, own::serve(alloc))
+    let line = with_command(line, own::serve(alloc));
+    let line = with_command(line, own::run(alloc));
+    with_command(line, own::stop(alloc))
 }
 
 /// The program with the options before its command.

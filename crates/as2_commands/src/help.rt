@@ -235,3 +235,35 @@ served.
 
 Example:
   as2desk --agreements agreements.toml --store station.db serve --listen 127.0.0.1:8080 --count 100";
+
+pub(crate) const RUN: &str = "\
+Writes 'listening: ADDRESS' on standard error once it does; the line tells the port that the system
+chose. Up to 1000 connections are answered side by side, as 'post' answers its input, and a line is said
+on standard error for each thing that happens. It runs until 'stop', or until it is killed: what it had
+answered is recorded by then.
+
+While it runs, 'submit', 'list', 'show', 'outstanding', 'fetch', 'tick', 'verify', 'evidence' and
+'resend' over the same store are done by it, and print what they print without it. So is 'stop', which
+lets what is under way end for up to 10 seconds. They reach it at a socket, the store's path with '.ctl'
+behind it, which is its owner's alone. With '--control' the socket is made under that path, and a link
+to it stands there. A command with other agreements than the station's is 'refused: OtherAgreements';
+'post', 'send', 'serve', 'run' and 'migrate' are 'refused: StationRuns'.
+
+The SECONDS of '--timeout' are the longest wait for a peer's next byte within a request, and for a
+write; a request as a whole has ten times that. Behind a reply another request is waited for as long as
+'--idle' says.
+
+An address that can't be listened on, and a socket that can't be made, are 'refused: CannotListen' on
+standard error, exit status 1. A store that can't be opened is 'store: NAME', exit status 3.
+
+Example:
+  as2desk --agreements agreements.toml --store station.db run --listen 127.0.0.1:8080";
+
+pub(crate) const STOP: &str = "\
+The station that runs over the store takes no more connections, lets what is under way end for up to 10
+seconds, and closes the store. Nothing is printed, and the exit status is 0.
+
+Where no station runs it is 'refused: NoStation' on standard error, exit status 1.
+
+Example:
+  as2desk --agreements agreements.toml --store station.db stop";

@@ -15,7 +15,7 @@ mod words;
 pub use as2_views::Filter;
 pub use first_number::FirstNumber;
 pub use tasks::{
-    Command, EvidenceRequest, Format, Options, Question, RunOptions, Serving, ServingWaits,
-    Submission, Task, Waits,
+    Command, EvidenceRequest, Format, Operating, Options, Question, RunOptions, Serving,
+    ServingWaits, Submission, Task, Waits,
 };
 pub use words::options_in;

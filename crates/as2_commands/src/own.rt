@@ -1,11 +1,11 @@
 //! Each command, with its own options.
 ghost use Rattle.std.specs.Prelude.{[], ◌∷◌, codes, IfOk};
 ghost use Rattle.as2_commands.specs.Building.{Looks};
-ghost use Rattle.as2_commands.specs.CommandLine.{command, entry, evidence_command, format, list_command, post_command, serve_command, show_command, submit_command, timeout};
+ghost use Rattle.as2_commands.specs.CommandLine.{command, entry, evidence_command, format, list_command, post_command, run_command, serve_command, show_command, submit_command, timeout};
 
 use crate::args::{
-    FILE, FROM, KIND, LISTEN, LOG, RECEIVED, STATE, TO, count, entry, flag, folder, format, idle,
-    option, required_option, timeout, value,
+    FILE, FROM, KIND, LISTEN, LOG, RECEIVED, STATE, TO, control, count, entry, flag, folder,
+    format, idle, option, required_option, timeout, value,
 };
 use crate::building::{Made, and};
 use crate::help;
@@ -39,6 +39,10 @@ pub(crate) const SHOW: &str = "show";
 pub(crate) const FETCH: &str = "fetch";
 
 pub(crate) const SERVE: &str = "serve";
+
+pub(crate) const RUN: &str = "run";
+
+pub(crate) const STOP: &str = "stop";
 
 /// A command, before its options.
 fn named<'a>(alloc: Global, name: &'a str, about: &'a str, help: &'a str) -> Made<'a>
@@ -179,4 +183,22 @@ pub(crate) fn serve<'a>(alloc: Global) -> Made<'a>
     let serve = and(serve, required_option(alloc, LISTEN, "ADDRESS", help));
     let serve = and(and(serve, count(alloc)), timeout(alloc));
     and(serve, idle(alloc))
+}
+
+pub(crate) fn run<'a>(alloc: Global) -> Made<'a>
+    ensures { IfOk result (Looks run_command) }
+{
+    let about = "Runs the station: answers partners, and can be asked, until 'stop'";
+    let help = "Where it listens, as 127.0.0.1:8080; with port 0 the system chooses one";
+    let run = named(alloc, RUN, about, help::RUN);
+    let run = and(run, required_option(alloc, LISTEN, "ADDRESS", help));
+    let run = and(and(run, control(alloc)), timeout(alloc));
+    and(run, idle(alloc))
+}
+
+pub(crate) fn stop<'a>(alloc: Global) -> Made<'a>
+    ensures { IfOk result (Looks (command (codes "stop") [])) }
+{
+    let about = "Ends the station that runs over the store, in good order";
+    named(alloc, STOP, about, help::STOP)
 }

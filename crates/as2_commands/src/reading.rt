@@ -6,8 +6,8 @@ ghost use Rattle.as2_views.specs.Layout.{state_text};
 ghost use Rattle.as2_mdn.specs.declared.detail.DetailClass.{DetailClass};
 ghost use Rattle.as2_views.specs.declared.filter.Filter.{Filter as TheFilter};
 ghost use Rattle.clap.specs.Words.{first_of, found_of, one_of, rows_of, subcommand_rows_of};
-ghost use Rattle.as2_commands.specs.Options.{AsksEvidence, AsksRun, AsksServe, AsksShow, AsksSubmit, Commands, Give, IsEntryNumber, IsFormat, IsTimeout, box_of, Lists, is_state_ignored, is_set, NameIs, NumberFrom, NumberIs, SecondsAre, Tasks, TellsMoment, TellsOption};
-ghost use Rattle.as2_commands.specs.Requests.{GivenServing as TheServing, GivenSubmission as TheSubmission, GivenEvidence as TheWanted};
+ghost use Rattle.as2_commands.specs.Options.{AsksEvidence, AsksOperate, AsksRun, AsksServe, AsksShow, AsksSubmit, Commands, Give, IsEntryNumber, IsFormat, IsTimeout, box_of, Lists, is_state_ignored, is_set, NameIs, NumberFrom, NumberIs, SecondsAre, Tasks, TellsMoment, TellsOption};
+ghost use Rattle.as2_commands.specs.Requests.{GivenOperating as TheOperating, GivenServing as TheServing, GivenSubmission as TheSubmission, GivenEvidence as TheWanted};
 ghost use Rattle.as2_commands.specs.declared.tasks.Command.{Command as TheCommand};
 ghost use Rattle.as2_commands.specs.declared.tasks.Format.{Format as TheFormat};
 ghost use Rattle.as2_commands.specs.declared.tasks.Question.TheVariants.{Show};
@@ -15,16 +15,16 @@ ghost use Rattle.as2_commands.specs.declared.tasks.RunOptions.{RunOptions as The
 ghost use Rattle.as2_commands.specs.declared.tasks.Task.{Task as TheTask};
 
 use crate::args::{
-    AGREEMENTS, COUNT, FILE, FIRST, FORMAT, FROM, IDLE, KIND, LEAST_LIMIT, LEAST_WAIT, LISTEN, LOG,
-    MOMENT, MOST_CONNECTIONS, MOST_LIMIT, MOST_WAIT, NUMBER, OUT, RECEIVED, STATE, STORE,
-    STORE_LIMIT, TIMEOUT, TO,
+    AGREEMENTS, CONTROL, COUNT, FILE, FIRST, FORMAT, FROM, IDLE, KIND, LEAST_LIMIT, LEAST_WAIT,
+    LISTEN, LOG, MOMENT, MOST_CONNECTIONS, MOST_LIMIT, MOST_WAIT, NUMBER, OUT, RECEIVED, STATE,
+    STORE, STORE_LIMIT, TIMEOUT, TO,
 };
 use crate::fault::OptionFault;
 use crate::first_number::FirstNumber;
-use crate::own::{CHECK, EVIDENCE, MIGRATE, VERIFY};
+use crate::own::{CHECK, EVIDENCE, MIGRATE, RUN, STOP, VERIFY};
 use crate::tasks::{
-    Command, EvidenceRequest, Format, Options, Question, RunOptions, Serving, ServingWaits,
-    Submission, Task, Waits,
+    Command, EvidenceRequest, Format, Operating, Options, Question, RunOptions, Serving,
+    ServingWaits, Submission, Task, Waits,
 };
 use as2_audit::Mailbox;
 use as2_exchange::END_OF_NUMBERS;
@@ -88,6 +88,13 @@ fn asked<'a>(found: &ArgMatches<'a>, clock: Option<u64>) -> Result<Task<'a>, Opt
     }
     if word == MIGRATE {
         return Ok(Task::Migrate);
+    }
+    if word == STOP {
+        return Ok(Task::Stop);
+    }
+    if word == RUN {
+        let wanted = operating(found, own)?;
+        return Ok(Task::Operate(run_options(found, clock)?, wanted));
     }
     if word == VERIFY {
         let format = format(own)?;
@@ -310,6 +317,29 @@ fn serving<'a>(found: &ArgMatches<'a>, own: &ArgMatches<'a>) -> Result<Serving<'
         count,
         waits,
         moment,
+    })
+}
+
+/// What the options of `run` ask for. The moment is the clock's, each time, where the options give none.
+fn operating<'a>(
+    found: &ArgMatches<'a>,
+    own: &ArgMatches<'a>,
+) -> Result<Operating<'a>, OptionFault<'a>>
+    ensures given { IfOk result (AsksOperate (rows_of (found_of found.now)) (rows_of (found_of own.now))) }
+    ensures none { IfErr result (λ _. (s : TheOperating)
+        → ¬ AsksOperate (rows_of (found_of found.now)) (rows_of (found_of own.now)) s) }
+{
+    let Some(address) = text(own, LISTEN) else {
+        return Err(OptionFault::NoValue(LISTEN));
+    };
+    let idle = number_from(own, IDLE, LEAST_WAIT, MOST_WAIT)?;
+    let seconds = waits(own)?.seconds;
+    let given = given_moment(found)?;
+    Ok(Operating {
+        address,
+        control: text(own, CONTROL),
+        waits: ServingWaits { seconds, idle },
+        moment: given,
     })
 }
 

@@ -72,6 +72,33 @@ impl<'a> Model for Serving<'a> {
     ghost view = { λ s. record { address = s.address.now; count = s.count; waits = s.waits; moment = s.moment } };
 }
 
+/// A station that is to run.
+#[derive(Drop)]
+pub struct Operating<'a> {
+    /// The address that is listened on, as `127.0.0.1:8080`.
+    pub address: &'a str,
+    /// The path of the socket at which it can be asked, where it isn't the store's with `.ctl` behind it.
+    pub control: Option<&'a str>,
+    /// How long a peer is waited for.
+    pub waits: ServingWaits,
+    /// The moment of all that it answers, where `--moment` gives it.
+    pub moment: Option<Moment>,
+}
+
+impl<'a> Model for Operating<'a> {
+    ghost use Rattle.std.specs.Prelude.{option_map};
+    ghost use Rattle.as2_commands.specs.Requests.{GivenOperating};
+
+    ghost Value = { GivenOperating };
+
+    ghost view = { λ s. record {
+      address = s.address.now;
+      control = option_map (λ path. path.now) s.control;
+      waits = s.waits;
+      moment = s.moment;
+    } };
+}
+
 /// Which document is to be proved, and where the files go that show how it stands.
 #[derive(Drop)]
 pub struct EvidenceRequest<'a> {
@@ -146,6 +173,10 @@ pub enum Task<'a> {
     GatherEvidence(RunOptions, EvidenceRequest<'a>),
     /// A command is carried out over the records.
     Run(RunOptions, Command<'a, Submission<'a>>),
+    /// A station runs over the records, until it is stopped.
+    Operate(RunOptions, Operating<'a>),
+    /// The station that runs over the store ends.
+    Stop,
 }
 
 /// What a command line says.

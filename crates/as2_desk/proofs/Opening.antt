@@ -73,3 +73,11 @@ module _ {A : Type 0} {M : Medium} (shows : A → Standing M) (agreements : Agre
     λ known from. does_left agreements options.moment w known o (λ t. (shows l).Rests t) ran (each_known _ _ known from (λ s b. left (begins s b).1))
         (done.1 known (each_known _ _ known from (λ s b. let k = begins s b in (clean k.1, (found (done.0 (clean k.1))).1 s k.0)))),
   )
+
+  -- the stores were clean before, where they are now: by the records, where some were opened
+  pub clean_kept : (last : Option A) (r : Result A OpenFault) (Now Opened Was : Type 0) → Failed last r → Done last r
+      → IfOk r (λ opened. (shows opened).IsClean → Was) → IfErr r (λ _. Opened → Was)
+      → IfSome last (λ l. Now → (shows l).IsClean) → (last ≡ None → Now → Opened) → Now → Was
+  clean_kept last (Err fault) Now Opened Was failed done found unfound closed same now = unfound (same failed.0 now)
+  clean_kept None (Ok records) Now Opened Was failed done found unfound closed same now = absurd done
+  clean_kept (Some l) (Ok records) Now Opened Was failed done found unfound closed same now = found (done.0 (closed now))

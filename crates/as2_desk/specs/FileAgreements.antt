@@ -4,6 +4,8 @@ use Rattle.as2_agreement.specs.Agreements.{AgreedValues}
 use Rattle.as2_agreement.specs.Reading.{agreements_reading}
 use Rattle.as2_agreement.specs.declared.fault.AgreementFault.TheVariants as fault
 use Rattle.as2_host.specs.FileContents.{Content, untold, unreadable, file}
+use Rattle.as2_host.specs.declared.files.FileFault.{FileFault}
+use Rattle.as2_host.specs.declared.files.FileFault.TheVariants as file_fault
 use Rattle.as2_desk.specs.declared.refusal.CommandFault.{CommandFault}
 use Rattle.as2_desk.specs.declared.refusal.CommandFault.TheVariants as refusal
 
@@ -30,3 +32,8 @@ abbrev pub HasAgreements : Content → AgreementsResult → Type 0
 HasAgreements untold reading = ⊤
 HasAgreements unreadable reading = reading ≡ Err refusal.CannotRead
 HasAgreements (file bytes) reading = AreReadAsOrMemory bytes reading
+
+-- how it is told that a file gave no bytes
+abbrev pub unread_fault : FileFault → CommandFault
+unread_fault file_fault.CannotRead = refusal.CannotRead
+unread_fault file_fault.Memory = refusal.Agreements fault.Memory

@@ -102,6 +102,9 @@ error_line (refusal.Store fault) = store_lines fault
 error_line (refusal.Stream ended) = refused_line (end_name ended)
 error_line (refusal.Station reason) = refused_line (refusal_name reason)
 error_line refusal.CannotListen = refused_line (codes "CannotListen")
+error_line refusal.NoStation = refused_line (codes "NoStation")
+error_line refusal.StationRuns = refused_line (codes "StationRuns")
+error_line refusal.OtherAgreements = refused_line (codes "OtherAgreements")
 
 -- the exit status that goes with it
 abbrev pub refusal_status : CommandFault → ℕ

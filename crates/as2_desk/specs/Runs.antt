@@ -11,14 +11,14 @@ use Rattle.as2_desk.specs.Observed.{Observation, StoresSeen}
 use Rattle.as2_desk.specs.Statuses.{status_done}
 use Rattle.as2_desk.specs.Works.{WorkOrFault, DoesWork, IsWork}
 use Rattle.as2_desk.specs.Written.{Breaks, WritesWhole, WriterSeen}
-use Rattle.as2_desk.specs.declared.refusal.CommandFault.TheVariants.{CannotWrite, Memory}
+use Rattle.as2_desk.specs.declared.refusal.CommandFault.TheVariants.{CannotWrite, Memory, NoStation, StationRuns}
 use Rattle.as2_desk.specs.declared.status.Ran.{Ran}
 use Rattle.as2_desk.specs.declared.work.Work.TheVariants.{GatherEvidence as Gathering, Verify as Looking}
 use Rattle.clap.specs.Words.{Text}
 use Rattle.as2_commands.specs.Options.{Gives}
 use Rattle.as2_commands.specs.declared.tasks.RunOptions.{RunOptions}
 use Rattle.as2_commands.specs.declared.tasks.Task.{Task}
-use Rattle.as2_commands.specs.declared.tasks.Task.TheVariants.{Check, Migrate, Verify, GatherEvidence, Run}
+use Rattle.as2_commands.specs.declared.tasks.Task.TheVariants.{Check, Migrate, Verify, GatherEvidence, Run, Operate, Stop}
 use Rattle.as2_commands.specs.declared.tasks.Command.TheVariants.{Send, Serve}
 
 -- the members were counted on standard output, and what to be warned of is said; or a write failed behind a part of that line; or
@@ -47,6 +47,9 @@ DoesTask contents (Ok agreements) Check o stored ran = stored.Untouched × o.fil
 DoesTask contents (Ok agreements) Migrate o stored ran = o.filing.Untouched × o.Unasked × o.input.Untouched × DoesMigration stored o.outcome.output o.outcome.errors ran
 DoesTask contents (Ok agreements) (Verify options format) o stored ran = Goes agreements options (Ok (Looking format)) o stored ran
 DoesTask contents (Ok agreements) (GatherEvidence options wanted) o stored ran = Goes agreements options (Ok (Gathering wanted)) o stored ran
+-- (a station is run, and stopped, by whoever has its sockets)
+DoesTask contents (Ok agreements) (Operate options wanted) o stored ran = LeavesAll o stored × EndsRefused StationRuns o.outcome.errors ran
+DoesTask contents (Ok agreements) Stop o stored ran = LeavesAll o stored × EndsRefused NoStation o.outcome.errors ran
 DoesTask contents (Ok agreements) (Run options command) o stored ran = (begun : WorkOrFault) × IsWork contents command begun × Goes agreements options begun o stored ran
 
 -- the file of that path comes to agreements or to a refusal, and the task to what follows from them

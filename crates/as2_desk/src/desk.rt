@@ -79,6 +79,8 @@ pub fn run<
         ⊎ ((host.new.stores ≡ host.old.stores) × (host.new.outside ≡ host.old.outside)
         × (console.new.input ≡ console.old.input) × (console.new.output ≡ console.old.output)
         × EndsRefused Memory (errors_of E.Sink console.old console.new) result) }
+    // What is read of the stores is what had been written, only where it was before.
+    ensures clean { O.is_clean host.new.stores → O.is_clean host.old.stores }
     // A store in memory leaves the others as they were.
     ensures memory { (path : List ℕ) (task : TheTask) → Gives (texts words.entry.now) clock path (codes ":memory:") task
         → host.new.stores ≡ host.old.stores }
@@ -149,6 +151,7 @@ fn carry_out<
           listening = listening_of N.Network N.Listener.Listens host.old.outside.network host.new.outside.network;
         })
         (stored_of O.OpenStores host.old.stores host.new.stores options.entry.store.now) result }
+    ensures clean { O.is_clean host.new.stores → O.is_clean host.old.stores }
     ensures memory { options.entry.store.now ≡ codes ":memory:" → host.new.stores ≡ host.old.stores }
     ensures store { result.status ≡ status_failed
         → StopsAtFault (IsSending options.entry.task) (IsServing options.entry.task)
@@ -163,6 +166,8 @@ fn carry_out<
     match task {
         Task::Check => check(alloc, &agreements, &mut console.output, &mut console.errors),
         Task::Migrate => migrate(store, host, console),
+        Task::Operate(_, _) => refuse(CommandFault::StationRuns, &mut console.errors),
+        Task::Stop => refuse(CommandFault::NoStation, &mut console.errors),
         Task::Verify(run, format) => {
             let terms = Terms::of(alloc, &agreements, run.moment);
             let store = NamedStore::of(store, run);

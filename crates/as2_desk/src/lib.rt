@@ -24,6 +24,8 @@ mod terms;
 mod verifying;
 mod work;
 
+pub use agreed::{AgreedText, agreed_text};
 pub use console::{Console, Host, Outside};
 pub use desk::run;
+pub use refusal::{CommandFault, refuse};
 pub use status::Ran;

@@ -53,6 +53,7 @@ fn migrated<O: OpenStores>(path: &str, stores: &mut O) -> Result<Migration, Open
         → O.keeps stores.new path.now number s) }
     ensures earlier { IfErr result (λ fault. (s : State) → O.keeps_earlier stores.old path.now s
         → O.keeps_earlier stores.new path.now s) }
+    ensures clean { O.is_clean stores.new → O.is_clean stores.old }
     ensures memory { path.now ≡ codes ":memory:" → stores.new ≡ stores.old }
     ensures counted { O.opens stores.new ≡ O.opens stores.old }
 {
@@ -75,6 +76,7 @@ pub(crate) fn migrate<F, O: OpenStores, N, R, W: Sink, H: Write, E: Sink>(
     ensures migrates { DoesMigration (stored_of O.OpenStores host.old.stores host.new.stores path.now)
         (written_of W.Sink console.old.output console.new.output)
         (written_of E.Sink console.old.errors console.new.errors) result }
+    ensures clean { O.is_clean host.new.stores → O.is_clean host.old.stores }
     ensures memory { path.now ≡ codes ":memory:" → host.new.stores ≡ host.old.stores }
     ensures store { result.status ≡ status_failed → (console.new.output ≡ console.old.output)
         × ((fault : TheFault)

@@ -17,7 +17,7 @@ use itoa::Buffer;
 
 /// Why what was asked for isn't done.
 #[derive(Clone, Copy, Debug, PartialEq, Eq)]
-pub(crate) enum CommandFault {
+pub enum CommandFault {
     /// A file can't be read.
     CannotRead,
     /// Standard output or a file can't be written.
@@ -34,8 +34,14 @@ pub(crate) enum CommandFault {
     Stream(Served),
     /// The station refuses what it is asked.
     Station(Refusal),
-    /// The address can't be listened on.
+    /// The address can't be listened on, or the socket at which a station can be asked can't be made.
     CannotListen,
+    /// No station runs over the store.
+    NoStation,
+    /// One runs over it, and this isn't done meanwhile.
+    StationRuns,
+    /// The station that runs has other agreements.
+    OtherAgreements,
 }
 
 /// The exit status that goes with a refusal.
@@ -196,6 +202,9 @@ fn error_line(refusal: CommandFault) -> Line
         CommandFault::Stream(end) => refused_line(end_name(end)),
         CommandFault::Station(reason) => refused_line(refusal_name(reason)),
         CommandFault::CannotListen => refused_line("CannotListen"),
+        CommandFault::NoStation => refused_line("NoStation"),
+        CommandFault::StationRuns => refused_line("StationRuns"),
+        CommandFault::OtherAgreements => refused_line("OtherAgreements"),
     }
 }
 
@@ -208,7 +217,7 @@ pub(crate) fn is_said<E: Sink>(text: &str, errors: &mut E) -> bool
 }
 
 /// Says that something was refused.
-pub(crate) fn refuse<E: Sink>(refusal: CommandFault, errors: &mut E) -> Ran
+pub fn refuse<E: Sink>(refusal: CommandFault, errors: &mut E) -> Ran
     ensures told { EndsRefused refusal (written_of E.Sink errors.old errors.new) result }
     ensures status { (result.status ≡ status_refused) ⊎ (result.status ≡ status_failed) }
     ensures store { result.status ≡ status_failed → (fault : TheFault) × (refusal ≡ Failing fault) }

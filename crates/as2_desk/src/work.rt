@@ -230,6 +230,8 @@ fn open_in<O: OpenStores>(
     ensures fault { IfErr result (λ fault. O.fails stores.old path.now fault) }
     ensures same { IfErr result (λ fault. (number : ℕ) (s : State) → O.keeps stores.old path.now number s
         → O.keeps stores.new path.now number s) }
+    ensures clean { IfOk result (λ b. (O.Opened.shows b.records).IsClean → O.is_clean stores.old) }
+    ensures unclean { IfErr result (λ _. O.is_clean stores.new → O.is_clean stores.old) }
     ensures counted { O.opens stores.new ≡ O.opens stores.old + opens_of result }
 {
     let room = room_of(limit, stores.size(path));
@@ -287,6 +289,7 @@ pub(crate) fn work_over<
       Exchanged = ExchangedOver N.Network N.Links.Links host.old.outside.network host.new.outside.network;
       listening = listening_of N.Network N.Listener.Listens host.old.outside.network host.new.outside.network;
     }) (stored_of O.OpenStores host.old.stores host.new.stores store.entry.path.now) result }
+    ensures clean { O.is_clean host.new.stores → O.is_clean host.old.stores }
     ensures memory { store.entry.path.now ≡ codes ":memory:" → host.new.stores ≡ host.old.stores }
     ensures store { result.status ≡ status_failed
         → StopsAtFault (SendsWork work.entry) (ServesWork work.entry) (input_of R.Source console.old console.new)

@@ -1,12 +1,16 @@
 //! The station as a desk: it answers the requests of many connections, one after the other.
 ghost use Rattle.std.specs.Prelude.{◌≡◌};
+ghost use Rattle.as2_exchange.specs.declared.answer.Answer.TheVariants.{Ticked};
+ghost use Rattle.as2_exchange.specs.declared.event.Event.TheVariants.{Tick};
+ghost use Rattle.as2_station.specs.Steps.{TakesEvent};
 ghost use Rattle.as2_front.specs.Answers.{GivesReply, conduct_by};
 
+use crate::log::{Log, LogLine};
 use as2_agreement::Agreements;
-use as2_exchange::HttpAnswer;
-use as2_http::respond;
+use as2_exchange::{HttpAnswer, StoreFault};
+use as2_http::{Journal, identifier_told, name_told, respond};
 use as2_hub::{Desk, Replied, Reply};
-use as2_messages::{Form, Refused, Request, refusal, write_reply};
+use as2_messages::{Form, Method, Refused, Request, Target, refusal, write_reply};
 use as2_records::Records;
 use as2_station::Station;
 use as2_text::Moment;
@@ -20,6 +24,7 @@ pub struct StationDesk<'a, K: Records> {
     agreements: &'a Agreements,
     moment: Moment,
     station: Station<K>,
+    log: Option<&'a Log>,
 }
 
 impl<'a, K: Records> StationDesk<'a, K> {
@@ -40,7 +45,37 @@ impl<'a, K: Records> StationDesk<'a, K> {
             agreements,
             moment,
             station,
+            log: None,
         }
+    }
+
+    /// From now on a line is added to this log for each request that is answered, and for each beginning that is none.
+    pub fn noting(self, log: &'a Log) -> StationDesk<'a, K>
+        ensures alloc { result.alloc ≡ self.entry.alloc }
+        ensures agreements { result.agreements ≡ self.entry.agreements }
+        ensures moment { result.moment ≡ self.entry.moment }
+        ensures station { result.station ≡ self.entry.station }
+    {
+        let mut desk = self;
+        desk.log = Some(log);
+        desk
+    }
+
+    /// Adds a line to the log, where there is one.
+    fn add_to_log(&self, line: LogLine, answer: &HttpAnswer) {
+        let Some(log) = self.log else {
+            return;
+        };
+        let mut line = line;
+        line.note_answer(answer);
+        log.add(line.text());
+    }
+
+    /// What is agreed.
+    pub fn agreements(&self) -> &'a Agreements
+        ensures { result.now ≡ self.now.agreements.now }
+    {
+        self.agreements
     }
 
     /// From now on it is this moment.
@@ -48,6 +83,17 @@ impl<'a, K: Records> StationDesk<'a, K> {
         ensures { self.new ≡ record self.old { moment = moment } }
     {
         self.moment = moment;
+    }
+
+    /// Takes that this moment has come: what waited too long is given up. Answers how many documents were. A fault of the
+    /// records may come in its place, and nothing is changed then.
+    pub fn tick(&mut self, moment: Moment) -> Result<u64, StoreFault>
+        ensures same { self.new ≡ record self.old { moment = moment; station = self.new.station } }
+        ensures taken { TakesEvent self.old.agreements.now (Tick moment) Ticked (K.shows self.old.station)
+            (K.shows self.new.station) result }
+    {
+        self.set_moment(moment);
+        self.station.tick(self.agreements, moment)
     }
 
     /// Gives the station back.
@@ -72,6 +118,23 @@ impl<'a, K: Records> StationDesk<'a, K> {
     }
 }
 
+/// The line of a request up to its answer. Only of a post to the station's path it is told what its head tells.
+fn begun_line(alloc: Global, request: &Request) -> LogLine {
+    if request.method != Method::Post {
+        return LogLine::new(alloc, b"request -");
+    }
+    if request.target != Target::Station {
+        return LogLine::new(alloc, b"post -");
+    }
+    let mut line = LogLine::new(alloc, b"post ");
+    line.note(name_told(request.fields.value(b"as2-from")).as_bytes());
+    line.note(b" -> ");
+    line.note(name_told(request.fields.value(b"as2-to")).as_bytes());
+    line.note(b" ");
+    line.note(identifier_told(request.fields.value(b"message-id")));
+    line
+}
+
 impl<K: Records> Desk for StationDesk<'_, K> {
     ghost conduct = { conduct_by K.shows };
 
@@ -81,6 +144,7 @@ impl<K: Records> Desk for StationDesk<'_, K> {
             to_head: request.method.is_head(),
         };
         let stays = !request.last;
+        let line = begun_line(self.alloc, &request);
         let response = respond(
             self.alloc,
             self.agreements,
@@ -88,8 +152,10 @@ impl<K: Records> Desk for StationDesk<'_, K> {
             &mut self.station,
             request,
         );
+        let answer = response.answer();
+        self.add_to_log(line, &answer);
         Replied {
-            reply: self.reply(form, &response.answer(), stays),
+            reply: self.reply(form, &answer, stays),
             request: None,
         }
     }
@@ -99,7 +165,9 @@ impl<K: Records> Desk for StationDesk<'_, K> {
             closes: true,
             to_head: refused.to_head,
         };
-        self.reply(form, &refusal(refused.reason), false).text
+        let answer = refusal(refused.reason);
+        self.add_to_log(LogLine::new(self.alloc, b"refused -"), &answer);
+        self.reply(form, &answer, false).text
     }
 
     fn settle(&mut self) -> bool {

@@ -2,9 +2,11 @@
 #![tactic(auto)]
 
 mod desk;
+mod log;
 mod playing;
 
 pub use desk::StationDesk;
+pub use log::Log;
 pub use playing::play;
 
 #[cfg(test)]

@@ -1,5 +1,6 @@
 //! Two connections over a station whose records are lists.
 use crate::desk::StationDesk;
+use crate::log::Log;
 use crate::playing::play;
 use as2_agreement::Agreements;
 use as2_hub::{Bounds, Hub, Input};
@@ -41,6 +42,9 @@ const BOUNDS: Bounds = Bounds {
     requests: 2,
 };
 
+const LINES: &[u8] =
+    b"request - 405 only POST\npost Buyer -> Supplier <m1@buyer.example> 200\nrefused - 400 bad request head\n";
+
 /// So many seconds after the start of 1970.
 fn moment(seconds: u64) -> Result<Moment, Fail> {
     Ok(Moment::new(seconds).ok_or("a moment")?)
@@ -51,7 +55,8 @@ fn serves_two(rt: HostRuntime) -> Result<(), Fail> {
     let alloc = rt.alloc();
     let agreements = Agreements::read(alloc, AGREEMENTS)?;
     let station = Station::new(Lists::new(alloc, FIRST));
-    let mut desk = StationDesk::new(alloc, &agreements, moment(0)?, station);
+    let log = Log::new(alloc);
+    let mut desk = StationDesk::new(alloc, &agreements, moment(0)?, station).noting(&log);
     desk.set_moment(moment(1_700_000_000)?);
     let mut hub = Hub::new(alloc, BOUNDS)?;
     let inputs = vec![in alloc;
@@ -73,6 +78,8 @@ fn serves_two(rt: HostRuntime) -> Result<(), Fail> {
     assert_eq!(rt; play(&mut hub, &mut desk, &more), more.len());
     assert!(rt; hub.output(0).starts_with(b"HTTP/1.1 400 Bad Request\r\n"));
     assert!(rt; !hub.is_reading(0));
+    assert_eq!(rt; log.take(alloc).as_slice(), LINES);
+    assert_eq!(rt; desk.tick(moment(1_700_000_001)?)?, 0);
     let mut station = desk.into_station();
     let listed = station.listing(alloc, Filter::Inbox)?;
     assert_eq!(rt; listed.lines().count(), 1);

@@ -98,6 +98,8 @@ pub trait OpenStores {
         ensures fault { IfErr result (λ fault. fails self.old path.now fault) }
         ensures same { IfErr result (λ fault. (number : ℕ) (s : State) → keeps self.old path.now number s
             → keeps self.new path.now number s) }
+        ensures clean { IfOk result (λ records. (Self.Opened.shows records).IsClean → is_clean self.old) }
+        ensures unclean { IfErr result (λ _. is_clean self.new → is_clean self.old) }
         ensures counted { opens self.new ≡ opens self.old + opens_of result };
 
     /// How many bytes the files of that path take, as far as that can be told; 0 where there are none.
@@ -125,5 +127,6 @@ pub trait OpenStores {
             → keeps self.new path.now number s) }
         ensures earlier { IfErr result (λ fault. (s : State) → keeps_earlier self.old path.now s
             → keeps_earlier self.new path.now s) }
+        ensures clean { is_clean self.new → is_clean self.old }
         ensures counted { opens self.new ≡ opens self.old };
 }

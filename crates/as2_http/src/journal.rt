@@ -38,8 +38,8 @@ fn dash() -> ArrayString<258>
     text
 }
 
-/// The one name that a field tells, as it is spelled, or a dash.
-fn name_told(field: Once<'_>) -> ArrayString<258>
+/// The one name that a field tells, as AS2 spells it (RFC 4130, section 6.2), or a dash.
+pub fn name_told(field: Once<'_>) -> ArrayString<258>
     ensures { (texts : List (List ℕ)) → IsOnceOf field.entry texts → result.bytes ≡ name_told texts }
 {
     if let Once::One(text) = field {
@@ -50,8 +50,8 @@ fn name_told(field: Once<'_>) -> ArrayString<258>
     dash()
 }
 
-/// The one identifier that a field tells, or a dash.
-fn identifier_told(field: Once<'_>) -> &[u8]
+/// The one message identifier that a field tells (RFC 4130, section 5.3.3), or a dash.
+pub fn identifier_told(field: Once<'_>) -> &[u8]
     ensures { (texts : List (List ℕ)) → IsOnceOf field.entry texts → result.now ≡ identifier_told texts }
 {
     match field {

@@ -12,7 +12,7 @@ mod stream;
 
 pub use device::{Count, Counted, DeviceFault, Sink, Source};
 pub use exchanging::exchange;
-pub use journal::{Journal, Unnoted};
+pub use journal::{Journal, Unnoted, identifier_told, name_told};
 pub use laws::one_stream;
 pub use response::{Response, respond};
 pub use sending::push_all;

@@ -31,7 +31,7 @@ module _ {M : Medium} {K : Type 0} (shows : K → Standing M) (old new : Live K)
     stands = stands;
     answer = λ h stand waited. waits h waited;
     bounded = bounded;
-    agreed = ap (λ (d : StationDesk K). d.agreements) same;
+    agreed = ap (λ (d : StationDesk K). d.agreements.now) same;
     clean = λ clean. subst (λ (d : StationDesk K). (shows d.station).IsClean) same clean;
     lives = λ clean s rests. record {
       trace = [];
@@ -92,7 +92,7 @@ module _ {M : Medium} {K : Type 0} (shows : K → Standing M) (old new : Live K)
           stands = λ h stand. it.stands h stand;
           answer = λ h stand waited. (it.answer h stand, waited);
           bounded = bounded;
-          agreed = ap (λ (d : StationDesk K). d.agreements) leads.same;
+          agreed = ap (λ (d : StationDesk K). d.agreements.now) leads.same;
           clean = λ clean. leads.clean clean;
           lives = λ clean s rests.
               let A = old.desk.agreements.now in

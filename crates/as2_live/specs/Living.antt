@@ -1,8 +1,9 @@
 -- What happens to a live station, and where it leads.
-use Rattle.std.specs.Prelude.{◌≡◌, ℕ, List, [], ◌∷◌, ◌++◌, map}
+use Rattle.std.specs.Prelude.{◌≡◌, ℕ, List, [], ◌∷◌, ◌++◌, map, ⊤}
 use Rattle.as2_agreement.specs.Agreements.{AgreedValues}
-use Rattle.as2_exchange.specs.Run.{Run, Trace}
+use Rattle.as2_exchange.specs.Run.{AnEvent, EventResult, Run, Trace}
 use Rattle.as2_exchange.specs.State.{State}
+use Rattle.as2_exchange.specs.declared.event.Event.TheVariants.{Tick}
 use Rattle.as2_http.specs.Streams.{RequestAndResponse, stream_events}
 use Rattle.as2_hub.specs.Bounded.{KeepsBounds}
 use Rattle.as2_hub.specs.Calls.{DeskCall}
@@ -23,6 +24,10 @@ pub data LiveHappening : Type 0 where
   AtAPlace : (what : Happening) → LiveHappening
   -- at this moment these calls of the desk answer what the connections ask, the newest first
   Answers : (moment : ℕ) (round : List DeskCall) → LiveHappening
+  -- this moment has come, and that was said to it
+  Ticks : (moment : ℕ) (said : EventResult) → LiveHappening
+  -- a command of these words was carried out
+  Commanded : (words : List (List ℕ)) → LiveHappening
 
 -- the newest first
 abbrev pub LiveHistory : Type 0
@@ -37,11 +42,28 @@ abbrev pub at_places : LiveHistory → Happenings
 at_places [] = []
 at_places (AtAPlace what ∷ h) = what ∷ at_places h
 at_places (Answers moment round ∷ h) = Keeps round ∷ at_places h
+at_places (Ticks moment said ∷ h) = at_places h
+at_places (Commanded words ∷ h) = at_places h
 
 -- ---- where it leads
 
--- From the state s what happened leads to t: each round answers its calls one after the other, from the state that was left before, and
--- nothing else changes the state. The trace has the posts among them, in the order in which they were answered.
+-- one event, or none
+abbrev pub IsOneAtMost : Trace → Type 0
+IsOneAtMost [] = ⊤
+IsOneAtMost (event ∷ []) = ⊤
+IsOneAtMost (first ∷ second ∷ others) = ⊥
+
+-- from the state s one event, with what was said to it, or none led the machine to a state that is left
+pub record LeadsByOne (A : AgreedValues) (s : State) (Left : State → Type 0) : Type 0 where
+  pub state : State
+  pub left : Left state
+  pub events : Trace
+  pub one : IsOneAtMost events
+  pub run : Run A s events state
+
+-- From the state s what happened leads to t: each round answers its calls one after the other, from the state that was left before; a
+-- moment that has come is an event, and a command one event or none; and nothing else changes the state. The trace has the posts and the
+-- events, in the order in which they were taken.
 abbrev pub LeadsTo : AgreedValues → State → LiveHistory → Trace → State → Type 0
 LeadsTo A s [] trace t = (trace ≡ []) × (t ≡ s)
 LeadsTo A s (AtAPlace (Opens c) ∷ h) trace t = LeadsTo A s h trace t
@@ -52,6 +74,10 @@ LeadsTo A s (AtAPlace (Keeps round) ∷ h) trace t = ⊥
 LeadsTo A s (AtAPlace (Loses round) ∷ h) trace t = ⊥
 LeadsTo A s (Answers moment round ∷ h) trace t = (mid : State) × (before : Trace) × (done : List RequestAndResponse) × LeadsTo A s h before mid
     × AnswersCalls A moment mid round done t × (trace ≡ before ++ stream_events moment done)
+LeadsTo A s (Ticks moment said ∷ h) trace t = (mid : State) × (before : Trace) × LeadsTo A s h before mid
+    × Run A mid (AnEvent (Tick moment) said ∷ []) t × (trace ≡ before ++ AnEvent (Tick moment) said ∷ [])
+LeadsTo A s (Commanded words ∷ h) trace t = (mid : State) × (before events : Trace) × LeadsTo A s h before mid
+    × IsOneAtMost events × Run A mid events t × (trace ≡ before ++ events)
 
 module _ {M : Medium} {K : Type 0} (shows : K → Standing M) where
   -- From the state s it led to one that the records now stand for; the trace is a run of the machine, and what stands of each document is its
@@ -70,7 +96,7 @@ module _ {M : Medium} {K : Type 0} (shows : K → Standing M) where
     pub stands : (h : Happenings) → StandAfter (places old.hub) h → StandAfter (places new.hub) (at_places history ++ h)
     pub answer : (h : Happenings) → StandAfter (places old.hub) h → AnswerWhatWaited h → AnswerWhatWaited (at_places history ++ h)
     pub bounded : KeepsBounds old.hub new.hub
-    pub agreed : new.desk.agreements ≡ old.desk.agreements
+    pub agreed : new.desk.agreements.now ≡ old.desk.agreements.now
     pub clean : (shows new.desk.station).IsClean → (shows old.desk.station).IsClean
     pub lives : (shows new.desk.station).IsClean → (s : State) → (shows old.desk.station).Rests s
         → LivesFrom new old.desk.agreements.now history s

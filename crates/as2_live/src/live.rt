@@ -3,8 +3,11 @@ ghost use Rattle.std.specs.Prelude.{◌≡◌, ◌∷◌, [], min, length, slice
 ghost use Rattle.as2_hub.specs.Places.{is_vacant, output_at, places, room_in};
 ghost use Rattle.as2_hub.specs.Happenings.{Closes};
 ghost use Rattle.as2_hub.specs.Inputs.{comes_if, goes_to, opens_if};
-ghost use Rattle.as2_live.specs.Living.{AnswersPlaces, LivesBy, all_at_places};
+ghost use Rattle.as2_exchange.specs.declared.answer.Answer.TheVariants.{Ticked};
+ghost use Rattle.as2_station.specs.Theorem.{said_as};
+ghost use Rattle.as2_live.specs.Living.{AnswersPlaces, LivesBy, Ticks, all_at_places};
 
+use as2_exchange::StoreFault;
 use as2_front::StationDesk;
 use as2_hub::Hub;
 use as2_records::Records;
@@ -77,6 +80,14 @@ impl<'a, K: Records> Live<'a, K> {
             (all_at_places (goes_to at (take result (output_at (slice_get (places self.old.hub) at))))) self.new }
     {
         self.hub.sent(at, most)
+    }
+
+    /// Takes that this moment has come: what waited too long is given up. Answers how many documents were. A fault of the
+    /// records may come in its place, and nothing is changed then.
+    pub fn tick(&mut self, moment: Moment) -> Result<u64, StoreFault>
+        ensures ticks { LivesBy K.shows self.old (Ticks moment (said_as Ticked result) ∷ []) self.new }
+    {
+        self.desk.tick(moment)
     }
 
     /// A round, at this moment: what waits at these places is answered, a request of each and up to the bound.

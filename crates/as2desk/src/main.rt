@@ -3,22 +3,28 @@
 
 ghost use Rattle.as2_http.specs.Devices.{OpensLedger};
 
+use as2_audit::Watch;
+use as2_client::ask_station;
 use as2_connections::{ProgressLine, Sockets, clock};
 use as2_desk::{Console, Host, Outside};
 use as2_files::{FileSystem, InFiles, KeepFiles, OpenFiles, StoreFiles, SystemFiles};
-use as2_host::{Lines, OpenStores};
-use as2_http::Counted;
+use as2_host::{CountsBusy, Lines, OpenStores};
+use as2_http::{Counted, Journal, Sink, Source};
 use as2_kept::Kept;
+use as2_loop::{Held, Spanned, run_station};
 use as2_records::Records;
 use sqlite::FileStore;
 use sqlite_disk::Disk;
 use sqlite_std_file::Unknown;
-use std::io::{LineWriter, Stderr, Stdin, Stdout};
+use std::io::{LineWriter, Stderr, Stdin, Stdout, Write};
 use std::marker::Brand;
 use std::os::fd::{AsRawFd, IntoRawFd};
 use std::process::ExitCode;
 use std::sync::ledger::{Blank, Ledger};
 use std::{env, fs, io};
+
+/// The exit status of a fault of the store.
+const FAILED: u8 = 3;
 
 /// How many standard streams there are; their numbers begin with 0.
 const STREAMS: i32 = 3;
@@ -30,18 +36,51 @@ struct Counts {
     failed: Blank,
 }
 
-/// Runs the command line `words` over these stores, the file system, the network and the standard streams, with counts of the calls that are
+/// What came of a command line: the exit status; or what a station keeps whose store has shut, and which is to go on.
+#[derive(Drop)]
+enum Came {
+    Ended(u8),
+    Shut(Held),
+}
+
+/// Runs a command line: through the station that runs over its store, where one does; else as a station, where the words ask for one; else
+/// at the desk.
+fn run_words<O: OpenStores, R: Source, W: Sink, H: Write + Journal + CountsBusy + Watch, E: Sink>(
+    rt: &HostRuntime,
+    words: &[&str],
+    held: Option<Held>,
+    host: &mut Host<FileSystem<'_>, O, Sockets<'_>>,
+    console: &mut Console<R, W, H, E>,
+) -> Came {
+    let clock = clock(rt);
+    if held.is_none() {
+        if let Some(ran) = ask_station(rt, words, clock, &mut host.outside.files, console) {
+            return Came::Ended(ran.status);
+        }
+    }
+    match run_station(rt, words, held, host, console) {
+        Spanned::Ended(ran) => Came::Ended(ran.status),
+        Spanned::Shut(held) => Came::Shut(held),
+        Spanned::Elsewhere => {
+            let ran = as2_desk::run(rt.alloc(), words, clock, host, console);
+            Came::Ended(ran.status)
+        }
+    }
+}
+
+/// Runs a command line over these stores, the file system, the network and the standard streams, with counts of the calls that are
 /// made of input, output and errors. The stores are any, since over one kind of files this call of the desk costs the prover too much. Hints and
-/// notes of replies go to `hints`. The exit status, and the stores, since only where their kind is known can they be let go.
+/// notes of replies go to `hints`. What came of it, and the stores, since only where their kind is known can they be let go.
 fn run<O: OpenStores, A: Ledger, B: Ledger, C: Ledger, D: Ledger, E: Ledger, G: Ledger>(
     rt: &HostRuntime,
     words: &[&str],
+    held: Option<Held>,
     stores: O,
     hints: Lines<LineWriter<Stderr>, ProgressLine<'_>>,
     reads: Counts,
     writes: Counts,
     says: Counts,
-) -> (u8, O)
+) -> (Came, O)
     requires reads { OpensLedger reads.calls.name reads.calls.parts A.name A.parts }
     requires failed_reads { OpensLedger reads.failed.name reads.failed.parts B.name B.parts }
     requires writes { OpensLedger writes.calls.name writes.calls.parts C.name C.parts }
@@ -67,22 +106,24 @@ fn run<O: OpenStores, A: Ledger, B: Ledger, C: Ledger, D: Ledger, E: Ledger, G: 
             network: Sockets { rt },
         },
     };
-    let ran = as2_desk::run(rt.alloc(), words, clock(rt), &mut host, &mut console);
+    let came = run_words(rt, words, held, &mut host, &mut console);
     let Host { stores, .. } = host;
-    (ran.status, stores)
+    (came, stores)
 }
 
-/// Runs the command line `words` over the stores that `keeper` opens. It is any one, so that this call and the next are two steps for the prover.
+/// Runs a command line over the stores that `keeper` opens. It is any one, so that this call and the next are two steps for the prover.
 fn run_over_stores<R: Records + Drop, K: KeepFiles<R> + Drop>(
     rt: &HostRuntime,
     words: &[&str],
+    held: Option<Held>,
     keeper: K,
     hints: Lines<LineWriter<Stderr>, ProgressLine<'_>>,
-) -> u8 {
+) -> Came {
     let stores: StoreFiles<'_, R, K> = StoreFiles::new(FileSystem { rt }, keeper);
-    let (status, _stores) = run::<StoreFiles<'_, R, K>, Brand, Brand, Brand, Brand, Brand, Brand>(
+    let (came, _stores) = run::<StoreFiles<'_, R, K>, Brand, Brand, Brand, Brand, Brand, Brand>(
         rt,
         words,
+        held,
         stores,
         hints,
         Counts {
@@ -98,27 +139,44 @@ fn run_over_stores<R: Records + Drop, K: KeepFiles<R> + Drop>(
             failed: Blank::new(1),
         },
     );
-    status
+    came
 }
 
-/// Runs the command line `words` over stores in SQLite's files, on any disk, which `keeper` opens.
+/// Runs a command line over stores in SQLite's files, on any disk, which `keeper` opens.
 fn run_over_kept<D: Disk + Drop, K: KeepFiles<Kept<FileStore<D>>> + Drop>(
     rt: &HostRuntime,
     words: &[&str],
+    held: Option<Held>,
     keeper: K,
     hints: Lines<LineWriter<Stderr>, ProgressLine<'_>>,
-) -> u8 {
-    run_over_stores::<Kept<FileStore<D>>, K>(rt, words, keeper, hints)
+) -> Came {
+    run_over_stores::<Kept<FileStore<D>>, K>(rt, words, held, keeper, hints)
 }
 
-/// Runs the command line `words` over stores in the files that `opener` opens.
+/// Runs a command line over stores in the files that `opener` opens. What they hold then is any: so is it each time that a station opens
+/// its store anew.
 fn run_over_files<F: OpenFiles + Drop>(
     rt: &HostRuntime,
     words: &[&str],
+    held: Option<Held>,
     opener: F,
     hints: Lines<LineWriter<Stderr>, ProgressLine<'_>>,
-) -> u8 {
-    run_over_kept::<F::Disk, InFiles<F>>(rt, words, InFiles { opener }, hints)
+) -> Came {
+    run_over_kept::<F::Disk, InFiles<F>>(rt, words, held, InFiles { opener }, hints)
+}
+
+/// Runs a command line, and a station whose store has shut again and again, until its store is open or it is stopped.
+fn run_until_ended(rt: &HostRuntime, words: &[&str]) -> io::Result<u8> {
+    let mut held = None;
+    for _ in 0..u64::MAX {
+        let lines = LineWriter::new(rt.alloc(), rt.stderr())?;
+        let hints = Lines::new(lines, ProgressLine::new(rt));
+        match run_over_files(rt, words, held, SystemFiles { start: Unknown }, hints) {
+            Came::Ended(status) => return Ok(status),
+            Came::Shut(left) => held = Some(left),
+        }
+    }
+    Ok(FAILED)
 }
 
 /// Takes the numbers of the standard streams that are shut, so that no file and no connection gets one: what is said would go there.
@@ -148,8 +206,6 @@ fn main(rt: HostRuntime) -> io::Result<ExitCode> {
     for word in &words {
         texts.push(word.as_str())?;
     }
-    let lines = LineWriter::new(rt.alloc(), rt.stderr())?;
-    let hints = Lines::new(lines, ProgressLine::new(&rt));
-    let status = run_over_files(&rt, texts.as_slice(), SystemFiles { start: Unknown }, hints);
+    let status = run_until_ended(&rt, texts.as_slice())?;
     Ok(ExitCode::from(status))
 }

@@ -1,9 +1,10 @@
 //! Command lines.
 use crate::arguments::{Arguments, parts_of};
 use as2_commands::{
-    Command, EvidenceRequest, Filter, FirstNumber, Format, Options, Question, RunOptions, Serving,
-    Submission, Task, options_in,
+    Command, EvidenceRequest, Filter, FirstNumber, Format, Operating, Options, Question,
+    RunOptions, Serving, ServingWaits, Submission, Task, options_in,
 };
+use as2_text::Moment;
 use clap::Error;
 use script_lines::Answer;
 
@@ -55,17 +56,41 @@ fn say_serving(answer: &mut Answer, given: &Serving<'_>) {
     answer.say(", ");
     answer.say_number(given.count);
     answer.say(" connections, ");
-    answer.say_number(given.waits.seconds);
+    say_waits(answer, given.waits);
+    say_moment(answer, given.moment);
+}
+
+/// Answers with how long a peer is waited for.
+fn say_waits(answer: &mut Answer, waits: ServingWaits) {
+    answer.say_number(waits.seconds);
     answer.say(" seconds, idle ");
-    answer.say_number(given.waits.idle);
+    answer.say_number(waits.idle);
     answer.say(", ");
-    match given.moment {
+}
+
+/// Answers with the moment of what is answered.
+fn say_moment(answer: &mut Answer, moment: Option<Moment>) {
+    match moment {
         Some(moment) => {
             answer.say("each at ");
             answer.say_number(moment.seconds());
         }
         None => answer.say("at the clock's moments"),
     }
+}
+
+/// Answers with a station that is to run.
+fn say_operating(answer: &mut Answer, given: &Operating<'_>) {
+    answer.say("run ");
+    answer.say(given.address);
+    answer.say(", ");
+    if let Some(path) = given.control {
+        answer.say("asked at ");
+        answer.say(path);
+        answer.say(", ");
+    }
+    say_waits(answer, given.waits);
+    say_moment(answer, given.moment);
 }
 
 /// Answers with what is to be listed.
@@ -172,6 +197,11 @@ fn say_options(answer: &mut Answer, options: &Options<'_>) {
             say_run(answer, run);
             say_command(answer, command)
         }
+        Task::Operate(run, wanted) => {
+            say_run(answer, run);
+            say_operating(answer, wanted)
+        }
+        Task::Stop => answer.say(": stop"),
     }
 }
 

@@ -16,4 +16,6 @@ returns c =
     let a11 = c.with_command-line-11.ensures _ _ a10 c.outstanding.ensures in
     let a12 = c.with_command-line-12.ensures _ _ a11 c.show.ensures in
     let a13 = c.with_command-line-13.ensures _ _ a12 c.fetch.ensures in
-    c.with_command.ensures _ _ a13 c.serve.ensures
+    let a14 = c.with_command-line-14.ensures _ _ a13 c.serve.ensures in
+    let a15 = c.with_command-line-15.ensures _ _ a14 c.run.ensures in
+    c.with_command.ensures _ _ a15 c.stop.ensures

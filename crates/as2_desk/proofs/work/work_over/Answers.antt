@@ -5,7 +5,7 @@ use Rattle.as2_host.specs.Stores.{MayCome}
 use Rattle.as2_host.specs.declared.stores.OpenFault.{OpenFault}
 use Rattle.as2_host.specs.declared.stores.OpenStores.{Ghosts as Stores}
 use Rattle.as2_exchange.specs.State.{LaterVersion, State, empty}
-use Rattle.as2_desk.proofs.Opening.{each_left, goes_in_memory, goes_kept}
+use Rattle.as2_desk.proofs.Opening.{clean_kept, each_left, goes_in_memory, goes_kept}
 use Rattle.as2_desk.specs.Observed.{filing_of, input_of, console_outcome, stored_of}
 use Rattle.as2_desk.specs.Stores.{ByPlace, Leaves, is_in_memory, opens_at}
 use Rattle.as2_desk.proofs.work.work_over.Goals as goal
@@ -80,3 +80,24 @@ returns-clause-goes g c =
     (λ t. (number : ℕ) → g.O.OpenStores.keeps stores path number t)
     (Leaves path (g.O.OpenStores.keeps stores path)) c.close_in-refused.ensures.kept
     (λ t keeps. subst (λ (b : Bool). ByPlace b ⊤ ((number : ℕ) → g.O.OpenStores.keeps stores path number t)) (sym is) keeps))
+
+pub returns-clause-clean : goal.returns-clause-clean
+returns-clause-clean g c =
+    let path = c.args.store.path.now in
+    let was = c.args.host.now.stores in
+    let stores = c.close_in-refused.new.stores in
+    clean_kept (λ b. g.O.Opened.Records.shows b.records) c.args.terms.now.agreements.now
+    (record { first = c.args.store.first; moment = c.args.terms.now.moment; limit = c.args.store.limit }) c.args.work
+    (record {
+      input = input_of g.R.Source c.args.console.now c.do_over-left.new.console;
+      outcome = console_outcome g.W.Sink g.E.Sink c.args.console.now c.do_over-left.new.console (Leaves path (g.O.OpenStores.keeps stores path));
+      filing = filing_of g.F.MakeFiles c.args.host.now.outside.files c.do_over-left.new.outside.files;
+      Unasked = c.do_over-left.new.outside.network ≡ c.args.host.now.outside.network;
+      Exchanged = ExchangedOver g.N.Network g.N.Links.Links c.args.host.now.outside.network c.do_over-left.new.outside.network;
+      listening = listening_of g.N.Network g.N.Listener.Listens c.args.host.now.outside.network c.do_over-left.new.outside.network;
+    })
+    (stored_of g.O.OpenStores was stores path)
+    c.do_over-left.result.0 c.do_over-left.result.1 c.open_in-records.result (g.O.OpenStores.is_clean stores)
+    (g.O.OpenStores.is_clean c.open_in-records.new.stores) (g.O.OpenStores.is_clean was) c.do_over-left.ensures.fails c.do_over-left.ensures.does
+    c.open_in-records.ensures.clean c.open_in-records.ensures.unclean c.close_in-refused.ensures.clean
+    (λ none clean. subst (λ o. g.O.OpenStores.is_clean o) (c.close_in-refused.ensures.none none).0 clean)

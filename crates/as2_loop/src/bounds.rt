@@ -1,0 +1,48 @@
+//! How much is done in one turn, and how long a peer is waited for.
+
+/// Connections that are served at once.
+pub(crate) const CONNECTIONS: usize = 1_000;
+
+/// Bytes of one connection that came and aren't answered: a head, a body in chunks of one byte, and some.
+pub(crate) const BYTES_OF_ONE: usize = 8_388_608;
+
+/// Bytes of all connections that came and aren't answered.
+pub(crate) const BYTES_OF_ALL: usize = 268_435_456;
+
+/// Requests that are answered in one round.
+pub(crate) const REQUESTS: usize = 32;
+
+/// Bytes that are read at once.
+pub(crate) const PIECE: usize = 65_536;
+
+/// Reads of one connection in one turn.
+pub(crate) const READS: usize = 4;
+
+/// Connections that are accepted in one turn.
+pub(crate) const ACCEPTS: usize = 64;
+
+/// How often the limits are looked at, in milliseconds.
+pub(crate) const LOOK: u64 = 1_000;
+
+/// How long no connection is accepted where the system had none to give, in milliseconds.
+pub(crate) const PAUSE: u64 = 100;
+
+/// How long a peer is waited for, in milliseconds.
+#[derive(Clone, Copy, Debug, PartialEq, Eq)]
+pub(crate) struct Waits {
+    /// For its next byte within a request, for room to write, and for the end of what it sends behind its last reply.
+    pub wait: u64,
+    /// For the whole of a request, from its first byte.
+    pub whole: u64,
+    /// For another request.
+    pub idle: u64,
+}
+
+/// How many may ask at the control socket at once.
+pub(crate) const ASKERS: usize = 16;
+
+/// How long one who asks is waited for, in milliseconds.
+pub(crate) const ASKER_WAIT: u64 = 30_000;
+
+/// How long what is under way may take once the station is to stop, in milliseconds.
+pub(crate) const STOP: u64 = 10_000;

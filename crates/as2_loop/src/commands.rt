@@ -1,0 +1,236 @@
+//! What is asked at the control socket, done over the station's own records.
+ghost use Rattle.std.specs.Prelude.{◌≡◌};
+ghost use Rattle.as2_loop.specs.Commands.{RunsLendable};
+
+use as2_bounded::{Bounded, room_of};
+use as2_commands::{Command, Question, Submission, Task, options_in};
+use as2_control::{Demand, Outcome};
+use as2_desk::{AgreedText, CommandFault};
+use as2_front::{Log, StationDesk};
+use as2_host::OpenStores;
+use as2_hub::Hub;
+use as2_lent::{Forwarded, refused, run_forwarded};
+use as2_live::Live;
+use as2_records::Records;
+use as2_station::Station;
+use as2_text::Moment;
+use std::alloc::{AllocError, Global};
+
+/// What a station runs by.
+#[derive(Drop)]
+pub(crate) struct Basis {
+    pub alloc: Global,
+    /// What is agreed, and the bytes of its file.
+    pub agreed: AgreedText,
+    /// The SHA-256 of these bytes.
+    pub digest: [u8; 32],
+    /// The path of the store.
+    pub store: String,
+    /// The most MiB that its files may have with a content more.
+    pub limit: u64,
+    /// What it does is noted there.
+    pub log: Log,
+}
+
+/// What is done with a demand.
+#[derive(Clone, Copy)]
+enum Verdict<'a> {
+    /// The station stops.
+    Stops,
+    /// It is refused.
+    Refused(CommandFault),
+    /// Its words are run. The agreements have this path.
+    Runs(&'a str),
+}
+
+/// The name of a question.
+fn question_name<'a>(question: &Question<Submission<'a>>) -> &'static str {
+    match question {
+        Question::Submit(_) => "submit",
+        Question::Tick => "tick",
+        Question::Resend(_) => "resend",
+        Question::List(_, _, _) => "list",
+        Question::Outstanding(_) => "outstanding",
+        Question::Show(_, _) => "show",
+        Question::Fetch(_) => "fetch",
+    }
+}
+
+/// The name of a task, for the log.
+fn task_name(task: &Task<'_>) -> &'static str {
+    match task {
+        Task::Check => "check",
+        Task::Migrate => "migrate",
+        Task::Verify(_, _) => "verify",
+        Task::GatherEvidence(_, _) => "evidence",
+        Task::Operate(_, _) => "run",
+        Task::Stop => "stop",
+        Task::Run(_, Command::Post(_)) => "post",
+        Task::Run(_, Command::Send(_)) => "send",
+        Task::Run(_, Command::Serve(_)) => "serve",
+        Task::Run(_, Command::Ask(question)) => question_name(question),
+    }
+}
+
+/// What is done with a task, whose agreements have that path.
+fn verdict_on<'a>(task: &Task<'_>, path: &'a str) -> Verdict<'a>
+    ensures { RunsLendable task.now path.entry.now result }
+{
+    match task {
+        Task::Stop => Verdict::Stops,
+        Task::Operate(_, _) | Task::Migrate => Verdict::Refused(CommandFault::StationRuns),
+        Task::Run(_, Command::Post(_)) => Verdict::Refused(CommandFault::StationRuns),
+        Task::Run(_, Command::Send(_)) => Verdict::Refused(CommandFault::StationRuns),
+        Task::Run(_, Command::Serve(_)) => Verdict::Refused(CommandFault::StationRuns),
+        _ => Verdict::Runs(path),
+    }
+}
+
+/// What is done with the words of a demand, and the name of what they ask for.
+fn judge<'a>(
+    basis: &Basis,
+    digest: &[u8; 32],
+    words: &'a [&'a str],
+    clock: Option<u64>,
+) -> (&'static str, Verdict<'a>) {
+    let Ok(options) = options_in(basis.alloc, words, clock) else {
+        return ("-", Verdict::Runs(""));
+    };
+    let name = task_name(&options.task);
+    let verdict = verdict_on(&options.task, options.agreements);
+    // (whoever has changed the file has to be able to stop the station that runs by the old one)
+    if *digest != basis.digest && !matches!(verdict, Verdict::Stops) {
+        return (name, Verdict::Refused(CommandFault::OtherAgreements));
+    }
+    (name, verdict)
+}
+
+/// Puts a station together: it answers over these records, and these connections.
+pub(crate) fn answering<'a, R: Records>(
+    basis: &'a Basis,
+    moment: Moment,
+    records: Bounded<R>,
+    hub: Hub,
+) -> Live<'a, Bounded<R>>
+    ensures hub { result.hub ≡ hub }
+    ensures agreed { result.desk.agreements.now ≡ basis.now.agreed.agreements }
+    ensures records { result.desk.station ≡ records }
+{
+    let station = Station::new(records);
+    let desk = StationDesk::new(basis.alloc, &basis.agreed.agreements, moment, station);
+    Live::new(hub, desk.noting(&basis.log))
+}
+
+/// The records under the limit of a station.
+pub(crate) fn bounded<R: Records, O: OpenStores>(
+    basis: &Basis,
+    stores: &O,
+    records: R,
+) -> Bounded<R>
+    ensures { result.records ≡ records }
+{
+    Bounded::new(
+        records,
+        room_of(basis.limit, stores.size(basis.store.as_str())),
+    )
+}
+
+/// What came of a demand, and the station.
+#[derive(Drop)]
+pub(crate) struct Attended<'a, K: Records> {
+    /// None where the station is to stop, and where there was no memory for it.
+    pub outcome: Option<Outcome>,
+    /// The station is to stop.
+    pub stops: bool,
+    pub live: Option<Live<'a, K>>,
+}
+
+/// Runs a command line over the records of the station.
+fn run_words<'a, R: Records + Drop, O: OpenStores>(
+    basis: &'a Basis,
+    moment: Moment,
+    given: Forwarded<'_>,
+    stores: &O,
+    live: Live<'a, Bounded<R>>,
+) -> Attended<'a, Bounded<R>> {
+    let (hub, desk) = live.into_parts();
+    let records = desk.into_station().into_records().into_records();
+    let size = stores.size(basis.store.as_str());
+    let (outcome, records) = run_forwarded(basis.alloc, given, records, size);
+    let live = match records {
+        Some(records) => {
+            let records = bounded(basis, stores, records);
+            Some(answering(basis, moment, records, hub))
+        }
+        None => None,
+    };
+    Attended {
+        outcome: Some(outcome),
+        stops: false,
+        live,
+    }
+}
+
+/// The words of a demand, to be read.
+fn texts_of<'a>(alloc: Global, words: &'a [String]) -> Result<Vec<&'a str>, AllocError> {
+    let mut texts = Vec::new(alloc);
+    for word in words {
+        texts.push(word.as_str())?;
+    }
+    Ok(texts)
+}
+
+/// Does what a demand asks for.
+pub(crate) fn attend<'a, R: Records + Drop, O: OpenStores>(
+    basis: &'a Basis,
+    moment: Moment,
+    demand: &Demand,
+    stores: &O,
+    live: Live<'a, Bounded<R>>,
+) -> Attended<'a, Bounded<R>> {
+    let Ok(texts) = texts_of(basis.alloc, &demand.words) else {
+        return Attended {
+            outcome: None,
+            stops: false,
+            live: Some(live),
+        };
+    };
+    let clock = Some(moment.seconds());
+    let words = texts.as_slice();
+    let (name, verdict) = judge(basis, &demand.agreements, words, clock);
+    let attended = match verdict {
+        Verdict::Stops => Attended {
+            outcome: None,
+            stops: true,
+            live: Some(live),
+        },
+        Verdict::Refused(fault) => Attended {
+            outcome: Some(refused(basis.alloc, fault)),
+            stops: false,
+            live: Some(live),
+        },
+        Verdict::Runs(path) => {
+            let given = Forwarded {
+                words,
+                agreements_path: path,
+                agreements: &basis.agreed.text,
+                content: &demand.content,
+                clock,
+            };
+            run_words(basis, moment, given, stores, live)
+        }
+    };
+    note_command(basis, name, &attended.outcome);
+    attended
+}
+
+/// Notes a command, and its status.
+fn note_command(basis: &Basis, name: &str, outcome: &Option<Outcome>) {
+    let status = match outcome {
+        Some(outcome) => outcome.status,
+        None => 0,
+    };
+    if let Ok(line) = format!(in basis.alloc; "command {name} {status}") {
+        basis.log.add(line.as_str().as_bytes());
+    }
+}

@@ -1,0 +1,500 @@
+//! The loop.
+ghost use Rattle.as2_live.specs.Living.{LivesOn};
+
+use crate::askers::{Askers, CONTROL, seat_of};
+use crate::bounds::{
+    ACCEPTS, BYTES_OF_ALL, BYTES_OF_ONE, CONNECTIONS, LOOK, PIECE, REQUESTS, STOP, Waits,
+};
+use crate::clock::{Moments, Watch};
+use crate::commands::{Attended, Basis, attend};
+use crate::door::Door;
+use crate::noting::Notes;
+use crate::peer::{Peer, Phase};
+use crate::peers::{Fate, Went, fate_of, is_between, is_over, read, write};
+use crate::turns::Turns;
+use as2_bounded::Bounded;
+use as2_control::{Outcome, outcome_frame, read_demand};
+use as2_exchange::StoreFault;
+use as2_host::OpenStores;
+use as2_hub::{Bounds, Hub};
+use as2_live::Live;
+use as2_records::Records;
+use mio::event::Event;
+use mio::net::{TcpListener, TcpStream};
+use mio::{Events, Interest, Poll, Token};
+use std::alloc::Global;
+use std::io;
+use std::io::ErrorKind;
+use std::time::Duration;
+
+/// The token of the socket that listens. A connection's is its place.
+const DOOR: Token = Token(usize::MAX);
+
+/// The sockets of a station, and what is known of each.
+#[derive(Drop)]
+pub(crate) struct Shell {
+    rt: HostRuntime,
+    waits: Waits,
+    watch: Watch,
+    moments: Moments,
+    notes: Notes,
+    /// When the limits were looked at last, in milliseconds.
+    looked: u64,
+    /// When it is over with what is under way, in milliseconds, once the station is to stop.
+    end: Option<u64>,
+    poll: Poll,
+    door: Door,
+    askers: Askers,
+    peers: Vec<Option<Peer>>,
+    turns: Turns,
+    /// A place became free, which somebody may wait for.
+    is_freed: bool,
+    /// Somebody's bytes had no room, since others have too many that aren't answered.
+    is_full: bool,
+    /// The records couldn't be reached.
+    is_shut: bool,
+    buffer: Vec<u8>,
+}
+
+/// How much is read.
+pub(crate) const BOUNDS: Bounds = Bounds {
+    connections: CONNECTIONS,
+    bytes_of_one: BYTES_OF_ONE,
+    bytes_of_all: BYTES_OF_ALL,
+    requests: REQUESTS,
+};
+
+/// The connections that may become ready for an answer, up to what one round takes.
+fn ready_among(alloc: Global, hub: &Hub, places: &[usize]) -> io::Result<Vec<usize>> {
+    let mut ready = Vec::new(alloc);
+    for at in places {
+        if ready.len() < REQUESTS && hub.is_ready(*at) {
+            ready.push(*at)?;
+        }
+    }
+    Ok(ready)
+}
+
+/// Notes how many documents a tick gave up, where it gave up one, and the fault that came in its place.
+fn note_tick(basis: &Basis, said: Result<u64, StoreFault>) {
+    match said {
+        Ok(0) => {}
+        Ok(count) => {
+            if let Ok(line) = format!(in basis.alloc; "tick {count} given up") {
+                basis.log.add(line.as_str().as_bytes());
+            }
+        }
+        Err(_) => basis.log.add(b"store shut"),
+    }
+}
+
+/// Notes what the system says of a connection.
+fn mark(peer: &mut Peer, event: &Event) {
+    let is_broken = event.is_error();
+    peer.may_read = peer.may_read || event.is_readable() || event.is_read_closed() || is_broken;
+    peer.has_shut = peer.has_shut || event.is_read_closed() || is_broken;
+    peer.may_write = peer.may_write || event.is_writable() || is_broken;
+}
+
+impl Shell {
+    /// Over this socket that listens and this control socket, with these waits.
+    pub(crate) fn new(
+        rt: &HostRuntime,
+        waits: Waits,
+        moments: Moments,
+        socket: TcpListener,
+        askers: Askers,
+    ) -> io::Result<Shell> {
+        let alloc = rt.alloc();
+        let mut socket = socket;
+        let mut askers = askers;
+        let poll = Poll::new(rt)?;
+        let registry = poll.registry();
+        registry.register(&mut socket, DOOR, Interest::READABLE)?;
+        registry.register(&mut askers.control.socket, CONTROL, Interest::READABLE)?;
+        let mut peers = Vec::new(alloc);
+        for _ in 0..CONNECTIONS {
+            peers.push(None)?;
+        }
+        Ok(Shell {
+            rt: *rt,
+            waits,
+            watch: Watch::start(rt)?,
+            moments,
+            notes: Notes::new(rt.stderr()),
+            looked: 0,
+            end: None,
+            poll,
+            door: Door::new(socket),
+            askers,
+            peers,
+            turns: Turns::new(alloc, CONNECTIONS)?,
+            is_freed: false,
+            is_full: false,
+            is_shut: false,
+            buffer: Vec::from_elem(alloc, 0, PIECE)?,
+        })
+    }
+
+    /// Turns until the station has stopped, or its records can't be reached, and gives it back.
+    pub(crate) fn run<'b, R: Records + Drop, O: OpenStores>(
+        &mut self,
+        basis: &'b Basis,
+        stores: &O,
+        live: Live<'b, Bounded<R>>,
+    ) -> io::Result<Live<'b, Bounded<R>>> {
+        self.is_shut = false;
+        let mut live = live;
+        let mut events = Events::with_capacity(self.rt.alloc(), 1_024)?;
+        for _ in 0..u64::MAX {
+            self.wait(&mut events)?;
+            self.turn(&mut live, &events)?;
+            live = self.attend(basis, stores, live)?;
+            self.look(basis, &mut live)?;
+            self.tell(basis);
+            if self.is_shut || self.has_stopped() {
+                break;
+            }
+        }
+        Ok(live)
+    }
+
+    /// The records couldn't be reached.
+    pub(crate) fn is_shut(&self) -> bool {
+        self.is_shut
+    }
+
+    /// The station has stopped: takes its socket away, and tells those who asked to stop.
+    pub(crate) fn end(self) {
+        let Shell { rt, askers, .. } = self;
+        askers.end(&rt);
+    }
+
+    /// How long the next turn may wait, in milliseconds.
+    fn most_wait(&self) -> u64 {
+        if !self.turns.is_empty() || self.askers.has_more() {
+            return 0;
+        }
+        let now = self.watch.now;
+        if self.is_freed && self.door.is_open(now) {
+            return 0;
+        }
+        let look = self.looked.saturating_add(LOOK).saturating_sub(now);
+        match self.door.wait(now) {
+            Some(wait) => look.min(wait),
+            None => look,
+        }
+    }
+
+    /// Waits until something happens.
+    fn wait(&mut self, events: &mut Events<Global>) -> io::Result<()> {
+        let most = Duration::from_millis(self.most_wait());
+        match self.poll.poll(events, Some(most)) {
+            Ok(()) => {}
+            Err(error) if error.kind() == ErrorKind::Interrupted => {}
+            Err(error) => return Err(error),
+        }
+        self.watch.read(&self.rt)
+    }
+
+    /// One turn: what came is read, a round is answered, and what is to be written is.
+    fn turn<K: Records>(
+        &mut self,
+        live: &mut Live<'_, K>,
+        events: &Events<Global>,
+    ) -> io::Result<()>
+        ensures lives { LivesOn K.shows live.old live.new }
+    {
+        self.mark_all(events)?;
+        self.accept_all(live)?;
+        let places = self.turns.begin();
+        self.read_all(live, &places);
+        let ready = ready_among(self.rt.alloc(), live.hub(), &places)?;
+        self.answer(live, &ready);
+        self.go_on_all(live, &places)
+    }
+
+    /// Reads what came at these places.
+    fn read_all<K: Records>(&mut self, live: &mut Live<'_, K>, places: &[usize])
+        ensures lives { LivesOn K.shows live.old live.new }
+    {
+        for at in places {
+            self.read_at(live, *at);
+        }
+    }
+
+    /// Has a round of these places answered, where there are some.
+    fn answer<K: Records>(&mut self, live: &mut Live<'_, K>, ready: &[usize])
+        ensures lives { LivesOn K.shows live.old live.new }
+    {
+        if !ready.is_empty() {
+            live.answer(self.moments.now(), ready);
+        }
+    }
+
+    /// Goes on at these places.
+    fn go_on_all<K: Records>(&mut self, live: &mut Live<'_, K>, places: &[usize]) -> io::Result<()>
+        ensures lives { LivesOn K.shows live.old live.new }
+    {
+        for at in places {
+            self.go_on_at(live, *at)?;
+        }
+        Ok(())
+    }
+
+    /// Notes what the system says of each socket.
+    fn mark_all(&mut self, events: &Events<Global>) -> io::Result<()> {
+        for event in events.iter() {
+            let token = event.token();
+            if token == DOOR {
+                self.door.may_accept = true;
+            } else if token == CONTROL || seat_of(token).is_some() {
+                self.askers.mark(event);
+            } else if let Some(Some(peer)) = self.peers.get_mut(token.0) {
+                mark(peer, event);
+                self.turns.add(token.0)?;
+            }
+        }
+        Ok(())
+    }
+
+    /// Gives an accepted connection this place.
+    fn seat<K: Records>(
+        &mut self,
+        live: &mut Live<'_, K>,
+        at: usize,
+        stream: TcpStream,
+    ) -> io::Result<()>
+        ensures lives { LivesOn K.shows live.old live.new }
+    {
+        let mut stream = stream;
+        let _ = stream.set_nodelay(true);
+        let interest = Interest::READABLE | Interest::WRITABLE;
+        let registry = self.poll.registry();
+        if registry.register(&mut stream, Token(at), interest).is_err() {
+            return Ok(());
+        }
+        if let Some(seat) = self.peers.get_mut(at) {
+            live.open(at);
+            *seat = Some(Peer::new(stream, self.watch.now));
+            self.turns.add(at)?;
+        }
+        Ok(())
+    }
+
+    /// Accepts who waits, as far as there are places.
+    fn accept_all<K: Records>(&mut self, live: &mut Live<'_, K>) -> io::Result<()>
+        ensures lives { LivesOn K.shows live.old live.new }
+    {
+        self.is_freed = false;
+        for _ in 0..ACCEPTS {
+            if !self.door.is_open(self.watch.now) {
+                return Ok(());
+            }
+            let Some(at) = live.hub().free_place() else {
+                return Ok(());
+            };
+            if let Some(stream) = self.door.accept(self.watch.now) {
+                self.seat(live, at, stream)?;
+            }
+        }
+        Ok(())
+    }
+
+    /// Closes the connection at a place.
+    fn close<K: Records>(&mut self, live: &mut Live<'_, K>, at: usize)
+        ensures lives { LivesOn K.shows live.old live.new }
+    {
+        live.close(at);
+        self.is_freed = true;
+        if let Some(seat) = self.peers.get_mut(at) {
+            *seat = None;
+        }
+    }
+
+    /// Reads what came at a place.
+    fn read_at<K: Records>(&mut self, live: &mut Live<'_, K>, at: usize)
+        ensures lives { LivesOn K.shows live.old live.new }
+    {
+        let Some(Some(peer)) = self.peers.get_mut(at) else {
+            return;
+        };
+        if peer.phase != Phase::Serving {
+            return;
+        }
+        let went = read(live, at, peer, &mut self.buffer, self.watch.now);
+        if went == Went::Broken {
+            self.close(live, at);
+        }
+    }
+
+    /// Writes what is to be written at a place, and sees to what becomes of it.
+    fn go_on_at<K: Records>(&mut self, live: &mut Live<'_, K>, at: usize) -> io::Result<()>
+        ensures lives { LivesOn K.shows live.old live.new }
+    {
+        let now = self.watch.now;
+        let Some(Some(peer)) = self.peers.get_mut(at) else {
+            return Ok(());
+        };
+        let fate = match write(live, at, peer, now) {
+            Went::On => fate_of(live.hub(), at, peer, &mut self.buffer, now),
+            Went::Broken => Fate::Closes,
+        };
+        match fate {
+            Fate::Again => self.turns.add(at)?,
+            Fate::Waits => {}
+            Fate::Stuck => self.is_full = true,
+            Fate::Closes => self.close(live, at),
+        }
+        Ok(())
+    }
+
+    /// Attends to who asks at the control socket: one command a turn.
+    fn attend<'b, R: Records + Drop, O: OpenStores>(
+        &mut self,
+        basis: &'b Basis,
+        stores: &O,
+        live: Live<'b, Bounded<R>>,
+    ) -> io::Result<Live<'b, Bounded<R>>> {
+        let now = self.watch.now;
+        let alloc = self.rt.alloc();
+        self.askers.accept(alloc, self.poll.registry(), now);
+        self.askers.go_on(&mut self.buffer, now);
+        let Some(asked) = self.askers.next_asked(alloc) else {
+            return Ok(live);
+        };
+        let Ok(demand) = read_demand(alloc, &asked.frame) else {
+            self.askers.let_go(asked.seat);
+            return Ok(live);
+        };
+        let attended = attend(basis, self.moments.now(), &demand, stores, live);
+        let Attended {
+            outcome,
+            stops,
+            live,
+        } = attended;
+        if stops {
+            self.stop(now);
+        } else {
+            self.answer_asker(asked.seat, outcome);
+        }
+        match live {
+            Some(live) => Ok(live),
+            None => Err(io::Error::from(ErrorKind::Other)),
+        }
+    }
+
+    /// Tells one who asked what came of it, or lets the one go.
+    fn answer_asker(&mut self, seat: usize, outcome: Option<Outcome>) {
+        let Some(outcome) = outcome else {
+            self.askers.let_go(seat);
+            return;
+        };
+        match outcome_frame(self.rt.alloc(), &outcome) {
+            Ok(frame) => self.askers.answer(seat, frame, self.watch.now),
+            Err(_) => self.askers.let_go(seat),
+        }
+    }
+
+    /// The station is to stop: nobody is accepted any more, and what is under way has a while.
+    fn stop(&mut self, now: u64) {
+        self.door.shut();
+        self.looked = 0;
+        if self.end.is_none() {
+            self.end = Some(now.saturating_add(STOP));
+        }
+    }
+
+    /// The station was to stop, and nothing is under way any more, or its time is over.
+    fn has_stopped(&self) -> bool {
+        match self.end {
+            Some(end) => end <= self.watch.now || self.peers.iter().all(|peer| peer.is_none()),
+            None => false,
+        }
+    }
+
+    /// Writes the lines of what happened.
+    fn tell(&mut self, basis: &Basis) {
+        let lines = basis.log.take(basis.alloc);
+        if !lines.is_empty() {
+            let moment = self.moments.now();
+            self.notes.note(basis.alloc, moment, &lines);
+        }
+    }
+
+    /// Once in a while lets time pass: gives up documents whose time is over, closes the connections whose time is over, and has those
+    /// looked at that had no room.
+    fn look<K: Records>(&mut self, basis: &Basis, live: &mut Live<'_, K>) -> io::Result<()>
+        ensures lives { LivesOn K.shows live.old live.new }
+    {
+        let now = self.watch.now;
+        if now < self.looked.saturating_add(LOOK) {
+            return Ok(());
+        }
+        self.looked = now;
+        self.give_room(basis, live);
+        self.look_at_all(live)?;
+        let said = live.tick(self.moments.now());
+        note_tick(basis, said);
+        self.is_shut = said.is_err() && !self.has_stopped();
+        Ok(())
+    }
+
+    /// The place whose request began first, among those that aren't whole.
+    fn oldest(&self, hub: &Hub) -> Option<usize> {
+        let mut oldest = None;
+        let mut first = u64::MAX;
+        for at in 0..CONNECTIONS {
+            if let Some(Some(peer)) = self.peers.get(at) {
+                let is_part = hub.unanswered(at) > 0 && !hub.is_ready(at);
+                if is_part && peer.began < first {
+                    first = peer.began;
+                    oldest = Some(at);
+                }
+            }
+        }
+        oldest
+    }
+
+    /// Looks at each place.
+    fn look_at_all<K: Records>(&mut self, live: &mut Live<'_, K>) -> io::Result<()>
+        ensures lives { LivesOn K.shows live.old live.new }
+    {
+        for at in 0..CONNECTIONS {
+            self.look_at(live, at)?;
+        }
+        Ok(())
+    }
+
+    /// Gives up the request that began first, where others have no room.
+    fn give_room<K: Records>(&mut self, basis: &Basis, live: &mut Live<'_, K>)
+        ensures lives { LivesOn K.shows live.old live.new }
+    {
+        if !self.is_full {
+            return;
+        }
+        self.is_full = false;
+        if let Some(at) = self.oldest(live.hub()) {
+            basis.log.add(b"closed - to give room");
+            self.close(live, at);
+        }
+    }
+
+    /// The same at one place.
+    fn look_at<K: Records>(&mut self, live: &mut Live<'_, K>, at: usize) -> io::Result<()>
+        ensures lives { LivesOn K.shows live.old live.new }
+    {
+        let Some(Some(peer)) = self.peers.get_mut(at) else {
+            return Ok(());
+        };
+        let is_idle = self.end.is_some() && is_between(live.hub(), at, peer);
+        if is_idle || is_over(live.hub(), at, peer, self.waits, self.watch.now) {
+            self.close(live, at);
+            return Ok(());
+        }
+        if peer.may_read {
+            self.turns.add(at)?;
+        }
+        Ok(())
+    }
+}

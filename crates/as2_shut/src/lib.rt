@@ -1,0 +1,7 @@
+//! Records that can't be reached: each call is a fault of the disk. A station whose store has shut answers over them until the store is
+//! open again.
+#![tactic(auto)]
+
+mod shut;
+
+pub use shut::ShutRecords;
