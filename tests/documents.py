@@ -21,7 +21,7 @@ import tempfile
 import time
 
 TOP = os.path.dirname(os.path.dirname(os.path.abspath(__file__)))
-DOCUMENTS = ["README.md", "docs/OPERATING.md", "docs/QUESTIONS.md"]
+DOCUMENTS = ["README.md", "docs/OPERATING.md", "docs/QUESTIONS.md", "docs/INTEGRATION.md"]
 MARK = "---- command "
 SECONDS = 120
 NEEDS = {"nginx": "nginx", "systemd": "systemd-socket-activate"}

@@ -17,7 +17,7 @@ import statistics
 import sys
 
 TOP = pathlib.Path(__file__).resolve().parent.parent
-DONE = ["docs/THEOREM.md", "docs/AGREEMENTS.md", "docs/MEASURED.md", "docs/DECISIONS.md"]
+DONE = ["docs/THEOREM.md", "docs/AGREEMENTS.md", "docs/MEASURED.md", "docs/DECISIONS.md", "docs/INTEGRATION.md"]
 LONGEST, MEDIAN = 35, 16
 # the statement of the theorem: one sentence, which has to be the same wherever it stands
 STATEMENT = "After any list of posts, desk commands, sending outcomes and clock moments, the tables and answers are"

@@ -22,7 +22,7 @@ class Killing:
     def __init__(self, given, folder, differences):
         self.given, self.differences, self.dice = given, differences, random.Random(given.seed)
         self.desk, self.station, self.counts, self.most = Desk(given.program, folder), None, collections.Counter(), None
-        self.answered, self.asked = {}, 0
+        self.answered, self.asked, self.stops = {}, 0, False
 
     def start(self):
         began = time.monotonic()
@@ -56,11 +56,11 @@ class Killing:
 
     def kill_under_load(self):
         """Kills it at some moment while posters are at it; what was answered, and whether it was under load."""
-        wait, stops = self.dice.random() * self.most, self.dice.random() < 0.1
+        wait, self.stops = self.dice.random() * self.most, self.dice.random() < 0.1
         with Crowd(self.station.address, POSTERS, self.posts(), is_kept=True) as posters:
             killer = threading.Timer(wait, self.station.kill)
             killer.start()
-            stopping = Waiting(self.desk, "stop") if stops else None
+            stopping = Waiting(self.desk, "stop") if self.stops else None
             posters.run(running.PATIENCE)
             killer.join()
             posters.run_on(0.2)
@@ -100,7 +100,8 @@ class Killing:
         if at % STORE_KILLS == 0:
             self.begin_anew()
         replies, under_way = self.kill_under_load()
-        self.differences.expect("kills: a socket is left", os.path.exists(self.desk.path(self.desk.store + ".ctl")), True)
+        if not self.stops:  # it may have stopped before the kill, and then nothing is left
+            self.differences.expect("kills: a socket is left", os.path.exists(self.desk.path(self.desk.store + ".ctl")), True)
         if self.dice.random() < 0.2:
             self.kill_a_start()
         if self.dice.random() < 0.2:

@@ -18,6 +18,7 @@ AGAINST = [("send",), ("serve", "--listen", "127.0.0.1:0", "--count", "1"), ("ru
 THROUGH = [("submit", "--from", "Supplier", "--to", "Buyer", "agreements.toml"), ("list", "in"), ("show", "1"), ("outstanding",), ("fetch", "1"),
            ("tick",), ("verify",), ("evidence", "1"), ("resend", "1")]
 ODD = [b"\x1b[31mred", b"a\tb", b"\x7f", b"\xff\xfe", "é".encode(), b"a b", b'"', b"\\", b"x" * 2000, b"%s%n", b"\x07", b"a\rb"]
+LONG = [100, 400, 470, 500, 900]  # bytes of identifiers that are taken; the fields of ODD aren't, and so no line of theirs gets long
 
 
 def others_agreements(desk, differences):
@@ -191,6 +192,12 @@ def lines(given, folder, differences):
         for odd in ODD:
             for field in (b"AS2-From: Buyer", b"AS2-To: Supplier", b"Message-ID: <m1@x>", b"POST /as2", b"Content-Type: application/edi-x12"):
                 half_closed(station, post_of(b"m1").replace(field, field[:field.find(b" ") + 1] + odd))
+        for size in LONG:
+            half_closed(station, post_of(b"l" * size))
+        # an identifier that isn't cut leaves no room for the status
+        cut = [line[:60] for line in station.lines() if b" post Buyer -> Supplier <lll" in line and not line.endswith(b" 200 processed")]
+        differences.expect("lines: a long identifier leaves the status in its line", cut, [])
+        differences.expect("lines: a line for each of them", sum(b"<lll" in line for line in station.lines()), len(LONG))
         differences.expect("lines: odd lines", station.odd_lines(), [])
         count, longest = len(station.lines()), max(map(len, station.lines()))
         differences.expect("lines: it stops", station.stop(), STOPPED)

@@ -71,7 +71,11 @@ fn frame_for<F: ReadFiles>(
     words: &[&str],
     options: &Options<'_>,
 ) -> Option<Vec<u8>> {
-    let agreements = files.read_file(alloc, options.agreements).ok()?;
+    let agreements = match options.task {
+        // (whoever stops a station needs none)
+        Task::Stop => Vec::new(alloc),
+        _ => files.read_file(alloc, options.agreements).ok()?,
+    };
     let demand = Demand {
         agreements: Sha256::digest(&agreements).into(),
         content: content_for(alloc, files, &options.task)?,

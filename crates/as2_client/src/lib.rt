@@ -6,4 +6,4 @@ mod finding;
 mod telling;
 
 pub use asking::ask_station;
-pub use finding::control_path;
+pub use finding::{control_path, store_link_path};

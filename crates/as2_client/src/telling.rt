@@ -69,7 +69,7 @@ fn make<F: MakeFiles>(
     }
 }
 
-/// Tells what the station answered, as the command tells it without one.
+/// Tells what the station answered, as the command tells it without one: what it hints or refuses comes before its output.
 pub(crate) fn tell<F: MakeFiles, R, W: Sink, H, E: Sink>(
     alloc: Global,
     outcome: Outcome,
@@ -80,12 +80,13 @@ pub(crate) fn tell<F: MakeFiles, R, W: Sink, H, E: Sink>(
     if let Err(fault) = make(alloc, files, folder_of(task), &outcome.files) {
         return refuse(fault, &mut console.errors);
     }
+    let told = push_all(&mut console.errors, &outcome.errors).is_ok();
     if push_all(&mut console.output, &outcome.output).is_err() {
         return refuse(CommandFault::CannotWrite, &mut console.errors);
     }
     Ran {
         status: outcome.status,
-        told: push_all(&mut console.errors, &outcome.errors).is_ok(),
+        told,
     }
 }
 

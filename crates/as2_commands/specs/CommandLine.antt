@@ -67,8 +67,8 @@ abbrev pub store : Rule
 store = nonempty (must_be_there (option (codes "store")))
 
 -- the longest wait for another request, in seconds
-abbrev pub idle : Rule
-idle = number 1 3600 (default (codes "2") (option (codes "idle")))
+abbrev pub idle : Text → Rule
+idle seconds = number 1 3600 (default seconds (option (codes "idle")))
 
 -- the folder that files are made in
 abbrev pub folder : Rule
@@ -113,10 +113,10 @@ abbrev pub evidence_command : Shape
 evidence_command = command (codes "evidence") (entry ∷ flag (codes "received") ∷ folder ∷ [])
 
 abbrev pub serve_command : Shape
-serve_command = command (codes "serve") (must_be_there (option (codes "listen")) ∷ count_option ∷ timeout ∷ idle ∷ [])
+serve_command = command (codes "serve") (must_be_there (option (codes "listen")) ∷ count_option ∷ timeout ∷ idle (codes "2") ∷ [])
 
 abbrev pub run_command : Shape
-run_command = command (codes "run") (must_be_there (option (codes "listen")) ∷ control ∷ timeout ∷ idle ∷ [])
+run_command = command (codes "run") (must_be_there (option (codes "listen")) ∷ control ∷ timeout ∷ idle (codes "75") ∷ [])
 
 abbrev pub commands : List Shape
 commands =

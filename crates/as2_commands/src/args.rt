@@ -187,12 +187,12 @@ pub(crate) fn timeout<'a>(alloc: Global) -> Arg<'a>
     numbered(timeout, LEAST_WAIT, MOST_WAIT)
 }
 
-pub(crate) fn idle<'a>(alloc: Global) -> Arg<'a>
-    ensures rule { rule_of result ≡ idle }
+pub(crate) fn idle<'a>(alloc: Global, seconds: &'a str) -> Arg<'a>
+    ensures rule { rule_of result ≡ idle seconds.entry.now }
     ensures local { result.global ≡ false }
 {
     let help = "Longest wait for another request behind a reply: 1 to 3600 seconds";
-    let idle = default_option(alloc, IDLE, "SECONDS", help, "2");
+    let idle = default_option(alloc, IDLE, "SECONDS", help, seconds);
     numbered(idle, LEAST_WAIT, MOST_WAIT)
 }
 

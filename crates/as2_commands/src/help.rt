@@ -245,9 +245,10 @@ answered is recorded by then.
 While it runs, 'submit', 'list', 'show', 'outstanding', 'fetch', 'tick', 'verify', 'evidence' and
 'resend' over the same store are done by it, and print what they print without it. So is 'stop', which
 lets what is under way end for up to 10 seconds. They reach it at a socket, the store's path with '.ctl'
-behind it, which is its owner's alone. With '--control' the socket is made under that path, and a link
-to it stands there. A command with other agreements than the station's is 'refused: OtherAgreements';
-'post', 'send', 'serve', 'run' and 'migrate' are 'refused: StationRuns'.
+behind it, which is its owner's alone. With '--control' the socket is made under that path, and links
+lead from the one to the other: beside the socket to the store's file, with '.store' behind its name. A
+command with other agreements than the station's is 'refused: OtherAgreements'; 'post', 'send', 'serve',
+'run' and 'migrate' are 'refused: StationRuns'.
 
 The SECONDS of '--timeout' are the longest wait for a peer's next byte within a request, and for a
 write; a request as a whole has ten times that. Behind a reply another request is waited for as long as

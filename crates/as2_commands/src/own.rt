@@ -182,7 +182,7 @@ pub(crate) fn serve<'a>(alloc: Global) -> Made<'a>
     let serve = named(alloc, SERVE, about, help::SERVE);
     let serve = and(serve, required_option(alloc, LISTEN, "ADDRESS", help));
     let serve = and(and(serve, count(alloc)), timeout(alloc));
-    and(serve, idle(alloc))
+    and(serve, idle(alloc, "2"))
 }
 
 pub(crate) fn run<'a>(alloc: Global) -> Made<'a>
@@ -193,7 +193,7 @@ pub(crate) fn run<'a>(alloc: Global) -> Made<'a>
     let run = named(alloc, RUN, about, help::RUN);
     let run = and(run, required_option(alloc, LISTEN, "ADDRESS", help));
     let run = and(and(run, control(alloc)), timeout(alloc));
-    and(run, idle(alloc))
+    and(run, idle(alloc, "75"))
 }
 
 pub(crate) fn stop<'a>(alloc: Global) -> Made<'a>

@@ -9,6 +9,9 @@ use std::cell::RefCell;
 /// The most bytes of a line. What is behind them is left out.
 const MOST_BYTES: usize = 512;
 
+/// The most bytes of a line before the status. What is behind them is left out, and two dots stand for it.
+const MOST_BEFORE: usize = 400;
+
 /// Lines that weren't taken yet, the oldest first. A line is lost where there is no memory for it, and stops nothing.
 #[derive(Drop)]
 pub struct Log {
@@ -64,6 +67,10 @@ impl LogLine {
 
     /// Notes the status of an answer, and what it says.
     pub(crate) fn note_answer(&mut self, answer: &HttpAnswer) {
+        if self.text.len() > MOST_BEFORE {
+            self.text.truncate(MOST_BEFORE);
+            self.note(b"..");
+        }
         self.note(b" ");
         self.note(Buffer::new().format(answer.status).as_bytes());
         match &answer.body {

@@ -1,11 +1,12 @@
 //! Somebody who asks at the control socket: one demand is read, and one outcome is told.
 
-use crate::bounds::READS;
+use crate::bounds::{ASKER_SILENCE, ASKER_WAIT, READS};
 use crate::peers::Went;
 use as2_control::{MOST_BYTES, StillToCome, awaited};
 use mio::net::UnixStream;
 use std::alloc::Global;
 use std::io::{ErrorKind, Read, Write};
+use std::mem;
 
 /// How far it is with somebody who asks.
 #[derive(Clone, Copy, Debug, PartialEq, Eq)]
@@ -80,6 +81,22 @@ impl Asker {
             }
         }
         Went::On
+    }
+
+    /// Takes the frame of its demand. It is to be answered then, or to stop.
+    pub(crate) fn take_demand(&mut self, alloc: Global) -> Vec<u8> {
+        self.asking = Asking::Stops;
+        mem::replace(&mut self.came, Vec::new(alloc))
+    }
+
+    /// Its time is over. Who waits for an answer is waited for.
+    pub(crate) fn is_slow(&self, now: u64) -> bool {
+        let wait = match self.asking {
+            Asking::Waits | Asking::Stops => return false,
+            Asking::Speaks if self.came.is_empty() => ASKER_SILENCE,
+            _ => ASKER_WAIT,
+        };
+        self.moved.saturating_add(wait) <= now
     }
 
     /// The outcome has this frame.

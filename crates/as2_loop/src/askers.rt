@@ -1,15 +1,16 @@
 //! All who ask at the control socket.
 
 use crate::asker::{Asker, Asking};
-use crate::bounds::{ACCEPTS, ASKER_WAIT, ASKERS};
+use crate::bounds::{ACCEPTS, ASKERS};
 use crate::control::Control;
 use crate::peers::Went;
 use as2_control::{FrameFault, Outcome, outcome_frame};
 use mio::event::Event;
+use mio::net::UnixStream;
 use mio::{Interest, Registry, Token};
 use std::alloc::Global;
-use std::io::Write;
-use std::{io, mem};
+use std::io;
+use std::io::{ErrorKind, Write};
 
 /// The token of the control socket.
 pub(crate) const CONTROL: Token = Token(usize::MAX - 1);
@@ -22,6 +23,8 @@ const FIRST: usize = usize::MAX - 1 - ASKERS;
 pub(crate) struct Askers {
     pub control: Control,
     may_accept: bool,
+    /// The system had no connection to give.
+    is_held_up: bool,
     seats: Vec<Option<Asker>>,
 }
 
@@ -50,6 +53,7 @@ impl Askers {
         Ok(Askers {
             control,
             may_accept: true,
+            is_held_up: false,
             seats,
         })
     }
@@ -74,6 +78,19 @@ impl Askers {
         self.seats.iter().position(|seat| seat.is_none())
     }
 
+    /// Who waits, if somebody does. Where the system has no connection to give it is tried again in the next turn.
+    fn accept_one(&mut self) -> Option<UnixStream> {
+        match self.control.socket.accept() {
+            Ok((stream, _)) => {
+                self.is_held_up = false;
+                return Some(stream);
+            }
+            Err(error) if error.kind() == ErrorKind::WouldBlock => self.may_accept = false,
+            Err(_) => self.is_held_up = true,
+        }
+        None
+    }
+
     /// Accepts who waits, as far as there are seats.
     pub(crate) fn accept(&mut self, alloc: Global, registry: &Registry, now: u64) {
         for _ in 0..ACCEPTS {
@@ -83,10 +100,10 @@ impl Askers {
             let Some(at) = self.free_seat() else {
                 return;
             };
-            let Ok((mut stream, _)) = self.control.socket.accept() else {
-                self.may_accept = false;
+            let Some(stream) = self.accept_one() else {
                 return;
             };
+            let mut stream = stream;
             let interest = Interest::READABLE | Interest::WRITABLE;
             let token = Token(FIRST.saturating_add(at));
             if registry.register(&mut stream, token, interest).is_err() {
@@ -106,9 +123,7 @@ impl Askers {
             };
             let is_broken = asker.read(buffer, now) == Went::Broken
                 || asker.write(now) == Went::Broken;
-            let is_slow = asker.asking != Asking::Stops
-                && asker.moved.saturating_add(ASKER_WAIT) <= now;
-            if is_broken || is_slow {
+            if is_broken || asker.is_slow(now) {
                 *seat = None;
             }
         }
@@ -116,7 +131,7 @@ impl Askers {
 
     /// Somebody waits for an answer, or has more to say or to hear at once.
     pub(crate) fn has_more(&self) -> bool {
-        if self.may_accept && self.free_seat().is_some() {
+        if self.may_accept && !self.is_held_up && self.free_seat().is_some() {
             return true;
         }
         self.seats.iter().any(|seat| match seat {
@@ -130,19 +145,31 @@ impl Askers {
         })
     }
 
-    /// What the first who waits asked.
-    pub(crate) fn next_asked(&mut self, alloc: Global) -> Option<Asked> {
+    /// The seat of the one who has waited longest.
+    fn longest(&self) -> Option<usize> {
+        let mut longest = None;
+        let mut first = u64::MAX;
         for at in 0..self.seats.len() {
-            if let Some(Some(asker)) = self.seats.get_mut(at) {
-                if asker.asking == Asking::Waits {
-                    let mut frame = Vec::new(alloc);
-                    mem::swap(&mut frame, &mut asker.came);
-                    asker.asking = Asking::Stops;
-                    return Some(Asked { seat: at, frame });
+            if let Some(Some(asker)) = self.seats.get(at) {
+                if asker.asking == Asking::Waits && asker.moved < first {
+                    first = asker.moved;
+                    longest = Some(at);
                 }
             }
         }
-        None
+        longest
+    }
+
+    /// What the one asked who has waited longest.
+    pub(crate) fn next_asked(&mut self, alloc: Global) -> Option<Asked> {
+        let at = self.longest()?;
+        let Some(Some(asker)) = self.seats.get_mut(at) else {
+            return None;
+        };
+        Some(Asked {
+            seat: at,
+            frame: asker.take_demand(alloc),
+        })
     }
 
     /// Tells the outcome at a seat by its frame.

@@ -1,7 +1,12 @@
 //! What is asked at the control socket, done over the station's own records.
-ghost use Rattle.std.specs.Prelude.{◌≡◌};
-ghost use Rattle.as2_loop.specs.Commands.{RunsLendable};
+ghost use Rattle.std.specs.Prelude.{◌≡◌, ◌≢◌, ◌⊎◌, IfSome, Some, true};
+ghost use Rattle.clap.specs.Walk.{texts};
+ghost use Rattle.clap.specs.Words.{kind_of};
+ghost use Rattle.clap.specs.declared.error.kind.ErrorKind.TheVariants.{OutOfMemory};
+ghost use Rattle.as2_loop.specs.Commands.{IsFor, RunsLendable, RunsWords};
+ghost use Rattle.as2_loop.specs.Running.{RunsOn};
 
+use crate::marks::FileMark;
 use as2_bounded::{Bounded, room_of};
 use as2_commands::{Command, Question, Submission, Task, options_in};
 use as2_control::{Demand, Outcome};
@@ -14,7 +19,12 @@ use as2_live::Live;
 use as2_records::Records;
 use as2_station::Station;
 use as2_text::Moment;
+use clap::Error;
+use clap::error::ErrorKind;
 use std::alloc::{AllocError, Global};
+
+/// The exit status of what is done.
+pub(crate) const DONE: u8 = 0;
 
 /// What a station runs by.
 #[derive(Drop)]
@@ -26,10 +36,22 @@ pub(crate) struct Basis {
     pub digest: [u8; 32],
     /// The path of the store.
     pub store: String,
+    /// The file that stood there as it was opened.
+    pub file: FileMark,
     /// The most MiB that its files may have with a content more.
     pub limit: u64,
     /// What it does is noted there.
     pub log: Log,
+}
+
+impl Basis {
+    /// Whether the store's file still stands at its path.
+    pub(crate) fn is_in_place(&self, rt: &HostRuntime) -> bool {
+        match FileMark::of(rt, self.store.as_str()) {
+            Ok(found) => found == self.file,
+            Err(_) => false,
+        }
+    }
 }
 
 /// What is done with a demand.
@@ -86,15 +108,31 @@ fn verdict_on<'a>(task: &Task<'_>, path: &'a str) -> Verdict<'a>
     }
 }
 
+/// Whether memory was wanting to read words.
+fn is_memory(error: &Error) -> bool
+    ensures { (result ≡ true) ⊎ (kind_of error.now ≢ OutOfMemory) }
+{
+    if error.kind() == ErrorKind::OutOfMemory {
+        return true;
+    }
+    false
+}
+
 /// What is done with the words of a demand, and the name of what they ask for.
 fn judge<'a>(
     basis: &Basis,
     digest: &[u8; 32],
     words: &'a [&'a str],
     clock: Option<u64>,
-) -> (&'static str, Verdict<'a>) {
-    let Ok(options) = options_in(basis.alloc, words, clock) else {
-        return ("-", Verdict::Runs(""));
+) -> (&'static str, Verdict<'a>)
+    ensures { RunsWords (texts words.entry.now) clock result.1 }
+{
+    let options = match options_in(basis.alloc, words, clock) {
+        Ok(options) => options,
+        Err(error) if is_memory(&error) => {
+            return ("-", Verdict::Refused(CommandFault::Memory));
+        }
+        Err(_) => return ("-", Verdict::Runs("")),
     };
     let name = task_name(&options.task);
     let verdict = verdict_on(&options.task, options.agreements);
@@ -145,30 +183,25 @@ pub(crate) struct Attended<'a, K: Records> {
     pub live: Option<Live<'a, K>>,
 }
 
-/// Runs a command line over the records of the station.
+/// Runs a command line over the records of the station: what came of it, and the station, where its records were given back.
 fn run_words<'a, R: Records + Drop, O: OpenStores>(
     basis: &'a Basis,
     moment: Moment,
     given: Forwarded<'_>,
     stores: &O,
     live: Live<'a, Bounded<R>>,
-) -> Attended<'a, Bounded<R>> {
+) -> (Outcome, Option<Live<'a, Bounded<R>>>)
+    ensures { IsFor basis.now given.entry → IfSome result.1 (RunsOn R.shows basis.now live.entry) }
+{
     let (hub, desk) = live.into_parts();
     let records = desk.into_station().into_records().into_records();
     let size = stores.size(basis.store.as_str());
     let (outcome, records) = run_forwarded(basis.alloc, given, records, size);
-    let live = match records {
-        Some(records) => {
-            let records = bounded(basis, stores, records);
-            Some(answering(basis, moment, records, hub))
-        }
-        None => None,
+    let Some(records) = records else {
+        return (outcome, None);
     };
-    Attended {
-        outcome: Some(outcome),
-        stops: false,
-        live,
-    }
+    let records = bounded(basis, stores, records);
+    (outcome, Some(answering(basis, moment, records, hub)))
 }
 
 /// The words of a demand, to be read.
@@ -180,6 +213,34 @@ fn texts_of<'a>(alloc: Global, words: &'a [String]) -> Result<Vec<&'a str>, Allo
     Ok(texts)
 }
 
+/// What came of a demand for what has that name, which is noted.
+fn noted<'a, K: Records>(
+    basis: &'a Basis,
+    name: &str,
+    outcome: Outcome,
+    live: Option<Live<'a, K>>,
+) -> Attended<'a, K>
+    ensures live { result.live ≡ live.entry }
+{
+    note_command(basis, name, outcome.status);
+    Attended {
+        outcome: Some(outcome),
+        stops: false,
+        live,
+    }
+}
+
+/// The station is left as it is, and the demand has no outcome.
+fn unheard<K: Records>(stops: bool, live: Live<'_, K>) -> Attended<'_, K>
+    ensures live { result.live ≡ Some live.entry }
+{
+    Attended {
+        outcome: None,
+        stops,
+        live: Some(live),
+    }
+}
+
 /// Does what a demand asks for.
 pub(crate) fn attend<'a, R: Records + Drop, O: OpenStores>(
     basis: &'a Basis,
@@ -187,28 +248,21 @@ pub(crate) fn attend<'a, R: Records + Drop, O: OpenStores>(
     demand: &Demand,
     stores: &O,
     live: Live<'a, Bounded<R>>,
-) -> Attended<'a, Bounded<R>> {
+) -> Attended<'a, Bounded<R>>
+    ensures { IfSome result.live (RunsOn R.shows basis.now live.entry) }
+{
     let Ok(texts) = texts_of(basis.alloc, &demand.words) else {
-        return Attended {
-            outcome: None,
-            stops: false,
-            live: Some(live),
-        };
+        return unheard(false, live);
     };
     let clock = Some(moment.seconds());
     let words = texts.as_slice();
     let (name, verdict) = judge(basis, &demand.agreements, words, clock);
-    let attended = match verdict {
-        Verdict::Stops => Attended {
-            outcome: None,
-            stops: true,
-            live: Some(live),
-        },
-        Verdict::Refused(fault) => Attended {
-            outcome: Some(refused(basis.alloc, fault)),
-            stops: false,
-            live: Some(live),
-        },
+    match verdict {
+        Verdict::Stops => {
+            note_command(basis, name, DONE);
+            unheard(true, live)
+        }
+        Verdict::Refused(fault) => noted(basis, name, refused(basis.alloc, fault), Some(live)),
         Verdict::Runs(path) => {
             let given = Forwarded {
                 words,
@@ -217,19 +271,14 @@ pub(crate) fn attend<'a, R: Records + Drop, O: OpenStores>(
                 content: &demand.content,
                 clock,
             };
-            run_words(basis, moment, given, stores, live)
+            let (outcome, live) = run_words(basis, moment, given, stores, live);
+            noted(basis, name, outcome, live)
         }
-    };
-    note_command(basis, name, &attended.outcome);
-    attended
+    }
 }
 
 /// Notes a command, and its status.
-fn note_command(basis: &Basis, name: &str, outcome: &Option<Outcome>) {
-    let status = match outcome {
-        Some(outcome) => outcome.status,
-        None => 0,
-    };
+fn note_command(basis: &Basis, name: &str, status: u8) {
     if let Ok(line) = format!(in basis.alloc; "command {name} {status}") {
         basis.log.add(line.as_str().as_bytes());
     }

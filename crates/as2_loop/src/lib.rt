@@ -9,6 +9,7 @@ mod clock;
 mod commands;
 mod control;
 mod door;
+mod marks;
 mod noting;
 mod operating;
 mod peer;

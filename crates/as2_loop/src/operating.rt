@@ -1,10 +1,19 @@
 //! A station that runs: its store is opened, its sockets are made, and it turns until it is stopped, or its store shuts.
 
+ghost use Rattle.std.specs.Prelude.{◌≡◌, Err, IfErr, IfOk, IfSome, None, string_bytes};
+ghost use Rattle.clap.specs.Walk.{texts};
+ghost use Rattle.as2_exchange.specs.State.{State};
+ghost use Rattle.as2_desk.specs.declared.refusal.CommandFault.TheVariants.{CannotListen};
+ghost use Rattle.as2_loop.specs.Running.{BeginsStation, GoesOnWith, HasRun, IsOfText, IsOver, KeepsAll, KeepsBasis, LeadsFrom};
+ghost use Rattle.as2_loop.specs.Running.{LeadsOn, TellsCame, LeadsRecords};
+ghost use Rattle.as2_loop.specs.declared.operating.Spanned.TheVariants.{Elsewhere};
+
 use crate::askers::Askers;
 use crate::bounds::Waits;
 use crate::clock::{Moments, told_seconds};
-use crate::commands::{Basis, answering, bounded};
+use crate::commands::{Basis, DONE, answering, bounded};
 use crate::control::Control;
+use crate::marks::FileMark;
 use crate::shell::{BOUNDS, Shell};
 use as2_bounded::Bounded;
 use as2_commands::{Operating, RunOptions, Task, options_in};
@@ -18,12 +27,10 @@ use as2_records::Records;
 use as2_shut::ShutRecords;
 use as2_text::Moment;
 use sha2::{Digest, Sha256};
+use std::alloc::Global;
 use std::io;
 use std::io::{ErrorKind, Write};
 use std::net::TcpListener;
-
-/// The exit status of what is done.
-const DONE: u8 = 0;
 
 /// The path of a store that no file has.
 const IN_MEMORY: &str = ":memory:";
@@ -68,6 +75,32 @@ fn say_address(rt: &HostRuntime, listener: &TcpListener) -> io::Result<()> {
     Ok(())
 }
 
+/// Listens at an address. Where that can't be, why is hinted.
+fn listener_at(rt: &HostRuntime, address: &str) -> io::Result<TcpListener> {
+    let error = match TcpListener::bind(rt, address) {
+        Ok(listener) => return Ok(listener),
+        Err(error) => error,
+    };
+    let hint: &[u8] = match error.kind() {
+        ErrorKind::AddrInUse => b"hint: another program listens at that address\n",
+        ErrorKind::PermissionDenied => b"hint: no right to listen at that port\n",
+        ErrorKind::AddrNotAvailable => b"hint: no address of this computer\n",
+        _ => b"hint: an address is HOST:PORT, as 127.0.0.1:8080\n",
+    };
+    let _ = rt.stderr().write_all(hint);
+    Err(error)
+}
+
+/// Hints that the control socket can't be made.
+fn hint_control(rt: &HostRuntime, error: &io::Error) {
+    let hint: &[u8] = match error.kind() {
+        ErrorKind::AddrInUse => b"hint: another station answers at the control socket\n",
+        ErrorKind::AlreadyExists => b"hint: what stands at the control socket's path is none\n",
+        _ => b"hint: the control socket can't be made\n",
+    };
+    let _ = rt.stderr().write_all(hint);
+}
+
 /// The sockets of a station over a store that is open.
 fn shell_of(
     rt: &HostRuntime,
@@ -75,9 +108,15 @@ fn shell_of(
     moment: Moment,
     wanted: &Operating<'_>,
 ) -> io::Result<Shell> {
-    let listener = TcpListener::bind(rt, wanted.address)?;
+    let listener = listener_at(rt, wanted.address)?;
     listener.set_nonblocking(true)?;
-    let control = Control::make(rt, store, wanted.control)?;
+    let control = match Control::make(rt, store, wanted.control) {
+        Ok(control) => control,
+        Err(error) => {
+            hint_control(rt, &error);
+            return Err(error);
+        }
+    };
     say_address(rt, &listener)?;
     let askers = Askers::new(rt.alloc(), control)?;
     let moments = Moments::new(rt, wanted.moment, moment);
@@ -92,7 +131,9 @@ fn held_of(
     run: RunOptions,
     wanted: &Operating<'_>,
     agreed: AgreedText,
-) -> io::Result<Held> {
+) -> io::Result<Held>
+    ensures { IfOk result (IsOver agreed store.now) }
+{
     let alloc = rt.alloc();
     let Ok(hub) = Hub::new(alloc, BOUNDS) else {
         return Err(io::Error::from(ErrorKind::OutOfMemory));
@@ -106,6 +147,7 @@ fn held_of(
             agreed,
             digest,
             store: store_path,
+            file: FileMark::of(rt, store)?,
             limit: run.limit,
             log: Log::new(alloc),
         },
@@ -127,7 +169,11 @@ fn turn_over<R: Records + Drop, O: OpenStores>(
     moment: Moment,
     stores: &O,
     records: Bounded<R>,
-) -> io::Result<Turned<R>> {
+) -> io::Result<Turned<R>>
+    ensures basis { IfOk result (λ t. t.held.basis ≡ held.basis) }
+    ensures over { IsOfText held.basis → IfOk result (λ t.
+        LeadsRecords R.shows held.basis records.records t.records) }
+{
     let Held { basis, hub, shell } = held;
     let mut shell = shell;
     let live = answering(&basis, moment, records, hub);
@@ -141,7 +187,9 @@ fn turn_over<R: Records + Drop, O: OpenStores>(
 }
 
 /// What a station keeps, where it is to go on. One that has stopped takes its socket away, and says so to those who asked for it.
-fn ended_or_held(held: Held) -> Option<Held> {
+fn ended_or_held(held: Held) -> Option<Held>
+    ensures { KeepsBasis held.basis result }
+{
     if held.shell.is_shut() {
         return Some(held);
     }
@@ -155,7 +203,9 @@ fn wait_for_store<O: OpenStores>(
     held: Held,
     moment: Moment,
     stores: &O,
-) -> Result<Option<Held>, CommandFault> {
+) -> Result<Option<Held>, CommandFault>
+    ensures { IfOk result (KeepsBasis held.basis) }
+{
     match turn_over(held, moment, stores, Bounded::new(ShutRecords, 0)) {
         Ok(turned) => Ok(ended_or_held(turned.held)),
         Err(_) => Err(CommandFault::Memory),
@@ -168,9 +218,17 @@ fn serve_open<O: OpenStores>(
     moment: Moment,
     stores: &mut O,
     records: O::Opened,
-) -> Result<Option<Held>, CommandFault> {
-    held.basis.log.add(b"store open");
-    let records = bounded(&held.basis, stores, records);
+) -> Result<Option<Held>, CommandFault>
+    ensures basis { IfOk result (KeepsBasis held.basis) }
+    ensures leads { IsOfText held.basis → IfOk result (λ _. LeadsFrom O.OpenStores
+        (string_bytes held.basis.store) held.basis.agreed.agreements (O.Opened.shows records).IsClean
+        (O.Opened.shows records).Rests stores.new) }
+{
+    let Held { basis, hub, shell } = held;
+    let mut shell = shell;
+    shell.note_open(&basis);
+    let records = bounded(&basis, stores, records);
+    let held = Held { basis, hub, shell };
     match turn_over(held, moment, stores, records) {
         Ok(turned) => {
             let Turned { records, held } = turned;
@@ -183,15 +241,20 @@ fn serve_open<O: OpenStores>(
 
 /// Opens the store of a path for a station. One in memory is none, since it ends with the program.
 fn opened<O: OpenStores>(
-    rt: &HostRuntime,
+    alloc: Global,
     store: &str,
     run: RunOptions,
     stores: &mut O,
-) -> Result<O::Opened, CommandFault> {
+) -> Result<O::Opened, CommandFault>
+    ensures found { IfOk result (λ records. (O.Opened.shows records).IsClean → (s : State)
+        → O.keeps stores.old store.now run.first s → (O.Opened.shows records).Rests s) }
+    ensures clean { IfOk result (λ records. (O.Opened.shows records).IsClean → O.is_clean stores.old) }
+    ensures same { IfErr result (λ _. KeepsAll O.OpenStores store.now stores.old stores.new) }
+{
     if store == IN_MEMORY {
         return Err(CommandFault::Store(OpenFault::Store(StoreFault::NotAStore)));
     }
-    match stores.open(rt.alloc(), store, run.first) {
+    match stores.open(alloc, store, run.first) {
         Ok(records) => Ok(records),
         Err(fault) => Err(CommandFault::Store(fault)),
     }
@@ -205,7 +268,13 @@ fn begin<O: OpenStores>(
     moment: Moment,
     stores: &mut O,
     records: O::Opened,
-) -> Result<Option<Held>, CommandFault> {
+) -> Result<Option<Held>, CommandFault>
+    ensures basis { IfOk held (λ h. IfOk result (KeepsBasis h.basis)) }
+    ensures leads { IfOk held (λ h. IsOfText h.basis → string_bytes h.basis.store ≡ store.now → IfOk result (λ _. LeadsFrom
+        O.OpenStores store.now h.basis.agreed.agreements (O.Opened.shows records).IsClean
+        (O.Opened.shows records).Rests stores.new)) }
+    ensures none { IfErr held (λ _. result ≡ Err CannotListen) }
+{
     match held {
         Ok(held) => serve_open(held, moment, stores, records),
         Err(_) => {
@@ -215,13 +284,20 @@ fn begin<O: OpenStores>(
     }
 }
 
-/// Goes on with a station whose store has shut.
+/// Goes on with a station whose store has shut. Where its file doesn't stand at its path any more, no other one is opened or made.
 fn go_on<O: OpenStores>(
     rt: &HostRuntime,
     run: RunOptions,
     held: Held,
     stores: &mut O,
-) -> Result<Option<Held>, CommandFault> {
+) -> Result<Option<Held>, CommandFault>
+    ensures basis { IfOk result (KeepsBasis held.basis) }
+    ensures leads { IsOfText held.basis → IfOk result (λ _. LeadsOn O.OpenStores
+        (string_bytes held.basis.store) held.basis.agreed.agreements run.first stores.old stores.new) }
+{
+    if !held.basis.is_in_place(rt) {
+        return wait_for_store(held, run.moment, stores);
+    }
     match stores.open(rt.alloc(), held.basis.store.as_str(), run.first) {
         Ok(records) => serve_open(held, run.moment, stores, records),
         Err(_) => wait_for_store(held, run.moment, stores),
@@ -229,7 +305,9 @@ fn go_on<O: OpenStores>(
 }
 
 /// How it is told what came of a station.
-fn told_of<E: Sink>(came: Result<Option<Held>, CommandFault>, errors: &mut E) -> Spanned {
+fn told_of<E: Sink>(came: Result<Option<Held>, CommandFault>, errors: &mut E) -> Spanned
+    ensures { TellsCame came result }
+{
     match came {
         Ok(Some(held)) => Spanned::Shut(held),
         Ok(None) => Spanned::Ended(Ran {
@@ -241,14 +319,24 @@ fn told_of<E: Sink>(came: Result<Option<Held>, CommandFault>, errors: &mut E) ->
 }
 
 /// Runs a station, where the words ask for one, until it is stopped, or its store shuts. `held` is what it kept as its store shut, where
-/// it is to go on.
+/// it is to go on. Else it is refused as CannotListen where the address can't be listened on or its control socket can't be made, and as
+/// Memory where there is none to go on with; then the store is as a crash leaves it.
 pub fn run_station<F: ReadFiles, O: OpenStores, N, R, W, H: Write, E: Sink>(
     rt: &HostRuntime,
     words: &[&str],
     held: Option<Held>,
     host: &mut Host<F, O, N>,
     console: &mut Console<R, W, H, E>,
-) -> Spanned {
+) -> Spanned
+    // Where they ask for none, nothing is done to the stores.
+    ensures elsewhere { result ≡ Elsewhere → host.new ≡ host.old }
+    // A station that has stopped, or is to go on, led the store of its words on, by the agreements of their file.
+    ensures begins { held ≡ None → HasRun result → BeginsStation O.OpenStores (F.content host.old.outside.files)
+        (texts words.entry.now) host.old.stores host.new.stores result }
+    // One that goes on led its store on from where it was.
+    ensures goes_on { IfSome held (λ h. IsOfText h.basis → HasRun result
+        → GoesOnWith O.OpenStores h host.old.stores host.new.stores result) }
+{
     let alloc = rt.alloc();
     let Ok(options) = options_in(alloc, words, told_seconds(rt)) else {
         return Spanned::Elsewhere;
@@ -260,17 +348,16 @@ pub fn run_station<F: ReadFiles, O: OpenStores, N, R, W, H: Write, E: Sink>(
         let came = go_on(rt, *run, held, &mut host.stores);
         return told_of(came, &mut console.errors);
     }
-    let store = options.store;
     let agreed = match agreed_text(alloc, &host.outside.files, options.agreements, console) {
         Ok(agreed) => agreed,
         Err(ran) => return Spanned::Ended(ran),
     };
-    let came = match opened(rt, store, *run, &mut host.stores) {
-        Ok(records) => {
-            let held = held_of(rt, store, *run, wanted, agreed);
-            begin(held, store, run.moment, &mut host.stores, records)
-        }
-        Err(fault) => Err(fault),
+    let records = match opened(alloc, options.store, *run, &mut host.stores) {
+        Ok(records) => records,
+        Err(fault) => return told_of(Err(fault), &mut console.errors),
     };
+    let begun = held_of(rt, options.store, *run, wanted, agreed);
+    let stores = &mut host.stores;
+    let came = begin(begun, options.store, run.moment, stores, records);
     told_of(came, &mut console.errors)
 }

@@ -1,9 +1,12 @@
 //! The loop.
+ghost use Rattle.std.specs.Prelude.{IfOk};
 ghost use Rattle.as2_live.specs.Living.{LivesOn};
+ghost use Rattle.as2_loop.specs.Running.{RunsOn};
 
 use crate::askers::{Askers, CONTROL, seat_of};
 use crate::bounds::{
-    ACCEPTS, BYTES_OF_ALL, BYTES_OF_ONE, CONNECTIONS, LOOK, PIECE, REQUESTS, STOP, Waits,
+    ACCEPTS, BYTES_OF_ALL, BYTES_OF_ONE, CONNECTIONS, CROWDED_IDLE, LOOK, PIECE, READS, REQUESTS,
+    STOP, Waits,
 };
 use crate::clock::{Moments, Watch};
 use crate::commands::{Attended, Basis, attend};
@@ -51,8 +54,12 @@ pub(crate) struct Shell {
     is_freed: bool,
     /// Somebody's bytes had no room, since others have too many that aren't answered.
     is_full: bool,
+    /// All places are taken, and somebody may wait for one.
+    is_crowded: bool,
     /// The records couldn't be reached.
     is_shut: bool,
+    /// .. and that was noted.
+    is_noted: bool,
     buffer: Vec<u8>,
 }
 
@@ -75,16 +82,14 @@ fn ready_among(alloc: Global, hub: &Hub, places: &[usize]) -> io::Result<Vec<usi
     Ok(ready)
 }
 
-/// Notes how many documents a tick gave up, where it gave up one, and the fault that came in its place.
+/// Notes how many documents a tick gave up, where it gave up one.
 fn note_tick(basis: &Basis, said: Result<u64, StoreFault>) {
-    match said {
-        Ok(0) => {}
-        Ok(count) => {
+    if let Ok(count) = said {
+        if count > 0 {
             if let Ok(line) = format!(in basis.alloc; "tick {count} given up") {
                 basis.log.add(line.as_str().as_bytes());
             }
         }
-        Err(_) => basis.log.add(b"store shut"),
     }
 }
 
@@ -121,7 +126,7 @@ impl Shell {
             waits,
             watch: Watch::start(rt)?,
             moments,
-            notes: Notes::new(rt.stderr()),
+            notes: Notes::new(rt)?,
             looked: 0,
             end: None,
             poll,
@@ -131,7 +136,9 @@ impl Shell {
             turns: Turns::new(alloc, CONNECTIONS)?,
             is_freed: false,
             is_full: false,
+            is_crowded: false,
             is_shut: false,
+            is_noted: false,
             buffer: Vec::from_elem(alloc, 0, PIECE)?,
         })
     }
@@ -142,21 +149,23 @@ impl Shell {
         basis: &'b Basis,
         stores: &O,
         live: Live<'b, Bounded<R>>,
-    ) -> io::Result<Live<'b, Bounded<R>>> {
+    ) -> io::Result<Live<'b, Bounded<R>>>
+        ensures { IfOk result (RunsOn R.shows basis.now live.entry) }
+    {
         self.is_shut = false;
-        let mut live = live;
+        let mut current = live;
         let mut events = Events::with_capacity(self.rt.alloc(), 1_024)?;
         for _ in 0..u64::MAX {
             self.wait(&mut events)?;
-            self.turn(&mut live, &events)?;
-            live = self.attend(basis, stores, live)?;
-            self.look(basis, &mut live)?;
+            self.turn(&mut current, &events)?;
+            current = self.attend(basis, stores, current)?;
+            self.look(basis, &mut current)?;
             self.tell(basis);
             if self.is_shut || self.has_stopped() {
                 break;
             }
         }
-        Ok(live)
+        Ok(current)
     }
 
     /// The records couldn't be reached.
@@ -186,13 +195,15 @@ impl Shell {
         }
     }
 
-    /// Waits until something happens.
+    /// Waits until something happens. A wait that was interrupted is begun anew, so that what came is read before any time is over.
     fn wait(&mut self, events: &mut Events<Global>) -> io::Result<()> {
         let most = Duration::from_millis(self.most_wait());
-        match self.poll.poll(events, Some(most)) {
-            Ok(()) => {}
-            Err(error) if error.kind() == ErrorKind::Interrupted => {}
-            Err(error) => return Err(error),
+        for _ in 0..READS {
+            match self.poll.poll(events, Some(most)) {
+                Ok(()) => break,
+                Err(error) if error.kind() == ErrorKind::Interrupted => {}
+                Err(error) => return Err(error),
+            }
         }
         self.watch.read(&self.rt)
     }
@@ -355,7 +366,9 @@ impl Shell {
         basis: &'b Basis,
         stores: &O,
         live: Live<'b, Bounded<R>>,
-    ) -> io::Result<Live<'b, Bounded<R>>> {
+    ) -> io::Result<Live<'b, Bounded<R>>>
+        ensures { IfOk result (RunsOn R.shows basis.now live.entry) }
+    {
         let now = self.watch.now;
         let alloc = self.rt.alloc();
         self.askers.accept(alloc, self.poll.registry(), now);
@@ -432,12 +445,41 @@ impl Shell {
             return Ok(());
         }
         self.looked = now;
+        self.mark_crowd(basis, live.hub(), now);
         self.give_room(basis, live);
-        self.look_at_all(live)?;
+        self.look_at_all(basis, live)?;
         let said = live.tick(self.moments.now());
         note_tick(basis, said);
-        self.is_shut = said.is_err() && !self.has_stopped();
+        self.mind(basis, said.is_err());
         Ok(())
+    }
+
+    /// Looks whether the store can be gone on with.
+    fn mind(&mut self, basis: &Basis, has_failed: bool) {
+        let is_gone = !has_failed && !basis.is_in_place(&self.rt);
+        if has_failed || is_gone {
+            self.shut(basis, is_gone);
+        }
+    }
+
+    /// The records can't be reached, or the store's file is another one by now. That is noted once, until the store is open again.
+    fn shut(&mut self, basis: &Basis, is_gone: bool) {
+        self.is_shut = !self.has_stopped();
+        if !self.is_noted {
+            self.is_noted = true;
+            let line: &[u8] = if is_gone {
+                b"store gone"
+            } else {
+                b"store shut"
+            };
+            basis.log.add(line);
+        }
+    }
+
+    /// The store is open.
+    pub(crate) fn note_open(&mut self, basis: &Basis) {
+        self.is_noted = false;
+        basis.log.add(b"store open");
     }
 
     /// The place whose request began first, among those that aren't whole.
@@ -457,13 +499,22 @@ impl Shell {
     }
 
     /// Looks at each place.
-    fn look_at_all<K: Records>(&mut self, live: &mut Live<'_, K>) -> io::Result<()>
+    fn look_at_all<K: Records>(&mut self, basis: &Basis, live: &mut Live<'_, K>) -> io::Result<()>
         ensures lives { LivesOn K.shows live.old live.new }
     {
         for at in 0..CONNECTIONS {
-            self.look_at(live, at)?;
+            self.look_at(basis, live, at)?;
         }
         Ok(())
+    }
+
+    /// Looks whether all places are taken and somebody may wait for one, and notes where it becomes so.
+    fn mark_crowd(&mut self, basis: &Basis, hub: &Hub, now: u64) {
+        let is_crowded = self.door.is_open(now) && hub.free_place().is_none();
+        if is_crowded && !self.is_crowded {
+            basis.log.add(b"crowded - all connections are taken");
+        }
+        self.is_crowded = is_crowded;
     }
 
     /// Gives up the request that began first, where others have no room.
@@ -480,19 +531,36 @@ impl Shell {
         }
     }
 
+    /// Whether the place of a connection is wanted that waits for a request, and at which bytes came or went last at that time.
+    fn is_wanted(&self, moved: u64) -> bool {
+        let is_long = moved.saturating_add(CROWDED_IDLE) <= self.watch.now;
+        self.end.is_some() || (self.is_crowded && is_long)
+    }
+
     /// The same at one place.
-    fn look_at<K: Records>(&mut self, live: &mut Live<'_, K>, at: usize) -> io::Result<()>
+    fn look_at<K: Records>(
+        &mut self,
+        basis: &Basis,
+        live: &mut Live<'_, K>,
+        at: usize,
+    ) -> io::Result<()>
         ensures lives { LivesOn K.shows live.old live.new }
     {
         let Some(Some(peer)) = self.peers.get_mut(at) else {
             return Ok(());
         };
-        let is_idle = self.end.is_some() && is_between(live.hub(), at, peer);
-        if is_idle || is_over(live.hub(), at, peer, self.waits, self.watch.now) {
+        let is_between = is_between(live.hub(), at, peer);
+        let is_over = is_over(live.hub(), at, peer, self.waits, self.watch.now);
+        let is_under_way = !is_between && peer.phase == Phase::Serving;
+        let (moved, may_read) = (peer.moved, peer.may_read);
+        if is_over && is_under_way {
+            basis.log.add(b"closed - its time was over");
+        }
+        if is_over || (is_between && self.is_wanted(moved)) {
             self.close(live, at);
             return Ok(());
         }
-        if peer.may_read {
+        if may_read {
             self.turns.add(at)?;
         }
         Ok(())

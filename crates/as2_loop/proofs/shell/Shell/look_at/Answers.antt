@@ -13,5 +13,5 @@ returns-in_err-add g c = record { lives = on_none g.K.Records.shows c.args.live.
 pub returns-in_ok-add : goal.returns-in_ok-add
 returns-in_ok-add g c = record { lives = on_none g.K.Records.shows c.args.live.now }
 
-pub returns-else-peer : goal.returns-else-peer
-returns-else-peer g c = record { lives = on_none g.K.Records.shows c.args.live.now }
+pub returns-else-may_read : goal.returns-else-may_read
+returns-else-may_read g c = record { lives = on_none g.K.Records.shows c.args.live.now }

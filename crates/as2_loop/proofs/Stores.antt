@@ -1,0 +1,115 @@
+-- A station's store: it is opened, led on and closed; or what is kept there is kept.
+use Rattle.std.proofs.Common.{◌≡◌, ◌∙◌, ◌⊎◌, inl, inr, ℕ, List, [], Option, Some, None, Result, Ok, Err, refl, sym, ap, subst}
+use Rattle.std.specs.Prelude.{IfErr, IfOk, IfSome, string_bytes}
+use Rattle.as2_agreement.specs.Agreements.{AgreedValues}
+use Rattle.as2_exchange.specs.State.{State}
+use Rattle.as2_host.specs.declared.stores.OpenStores.{Ghosts as Stores}
+use Rattle.as2_agreement.specs.Reading.{agreements_reading}
+use Rattle.as2_desk.specs.Refusals.{refusal_status}
+use Rattle.as2_desk.specs.Statuses.{status_done}
+use Rattle.as2_desk.specs.declared.agreed.AgreedText.{AgreedText}
+use Rattle.as2_desk.specs.declared.refusal.CommandFault.{CommandFault}
+use Rattle.as2_desk.specs.declared.refusal.CommandFault.TheVariants as fault
+use Rattle.as2_loop.specs.Running.{GoesOnWith, HasRun, IfShut, IsOfText, IsOver, KeepsAll, KeepsBasis, LeadsFrom, LeadsOn, TellsCame, LeadsRecords}
+use Rattle.as2_loop.specs.declared.operating.Held.{Held}
+use Rattle.as2_loop.specs.declared.operating.Spanned.{Spanned}
+use Rattle.as2_loop.specs.declared.operating.Spanned.TheVariants as spanned
+use Rattle.as2_loop.specs.declared.commands.Basis.{Basis}
+use Rattle.as2_records.specs.Standing.{Medium, Standing}
+
+module _ {O Opened InMemory : Type 0} (g : Stores O Opened InMemory) {M : Medium} (shows : Opened → Standing M) (path : List ℕ) (new : O) where
+  -- records that a station led on are kept once they are closed
+  pub closed_behind : (basis : Basis) (records left : Opened) → LeadsRecords shows basis records left → (g.is_clean new → (shows left).IsClean)
+      → (g.is_clean new → (s : State) → (shows left).Rests s → (number : ℕ) → g.keeps new path number s)
+      → LeadsFrom g path basis.agreed.agreements (shows records).IsClean (shows records).Rests new
+  closed_behind basis records left turns clean kept = record {
+    clean = λ is. turns.clean (clean is);
+    led = λ is s rests.
+        let it = turns.led (clean is) s rests in
+        record { trace = it.trace; state = it.state; kept = kept is it.state it.kept; run = it.run; by_history = it.by_history };
+  }
+
+  -- what was opened is what was kept
+  pub opened_before : (A : AgreedValues) (first : ℕ) (old : O) (records : Opened) → ((shows records).IsClean → g.is_clean old)
+      → ((shows records).IsClean → (s : State) → g.keeps old path first s → (shows records).Rests s)
+      → LeadsFrom g path A (shows records).IsClean (shows records).Rests new → LeadsFrom g path A (g.is_clean old) (g.keeps old path first) new
+  opened_before A first old records before found it = record {
+    clean = λ is. before (it.clean is);
+    led = λ is s kept. it.led is s (found (it.clean is) s kept);
+  }
+
+-- what came of a station that has run, and what is to go on
+pub went : (basis : Basis) (L : Type 0) (came : Result (Option Held) CommandFault) (told : Spanned) → TellsCame came told → HasRun told
+    → IfOk came (λ (_ : Option Held). L) → IfOk came (KeepsBasis basis) → L × IfShut told (λ (later : Held). later.basis ≡ basis)
+went basis L (Ok (Some held)) told is has leads keeps = (leads, subst (λ (t : Spanned). IfShut t (λ (later : Held). later.basis ≡ basis)) (sym is) keeps)
+went basis L (Ok None) told is has leads keeps = (leads, subst (λ (t : Spanned). IfShut t (λ (later : Held). later.basis ≡ basis)) (sym is) tt)
+went basis L (Err refusal) told (ran, is, not) has leads keeps = absurd (not (subst HasRun is has))
+
+if_shut : (P Q : Held → Type 0) (told : Spanned) → ((held : Held) → P held → Q held) → IfShut told P → IfShut told Q
+if_shut P Q spanned.Elsewhere f it = it
+if_shut P Q (spanned.Ended ran) f it = it
+if_shut P Q (spanned.Shut held) f it = f held it
+
+-- the same of one that was begun over these agreements and this path
+module _ (agreed : AgreedText) (path : List ℕ) (L : AgreedValues → Type 0) (text : agreements_reading agreed.text.items ≡ Ok agreed.agreements) where
+  abbrev Behind : Held → Type 0
+  Behind held = IsOfText held.basis × (held.basis.agreed.agreements ≡ agreed.agreements) × (string_bytes held.basis.store ≡ path)
+
+  of_text : (held : Held) → held.basis.agreed ≡ agreed → IsOfText held.basis
+  of_text held is = subst (λ (a : AgreedText). agreements_reading a.text.items ≡ Ok a.agreements) (sym is) text
+
+  behind : (held later : Held) → IsOver agreed path held → later.basis ≡ held.basis → Behind later
+  behind held later over is =
+      let same : later.basis.agreed ≡ agreed = ap (λ (b : Basis). b.agreed) is ∙ over.0 in
+      (of_text later same, ap (λ (a : AgreedText). a.agreements) same, ap (λ (b : Basis). string_bytes b.store) is ∙ over.1)
+
+  pub began : {E : Type 0} (begun : Result Held E) (came : Result (Option Held) CommandFault) (told : Spanned) → IfOk begun (IsOver agreed path)
+      → IfOk begun (λ (h : Held). IfOk came (KeepsBasis h.basis))
+      → IfOk begun (λ (h : Held). IsOfText h.basis → string_bytes h.basis.store ≡ path → IfOk came (λ (_ : Option Held). L h.basis.agreed.agreements))
+      → IfErr begun (λ (_ : E). came ≡ Err fault.CannotListen) → TellsCame came told → HasRun told → L agreed.agreements × IfShut told Behind
+  began (Ok held) came told over keeps leads none tells has =
+      let it = went held.basis (L held.basis.agreed.agreements) came told tells has (leads (of_text held over.0) over.1) keeps in (
+        subst (λ (a : AgreedText). L a.agreements) over.0 it.0,
+        if_shut (λ (later : Held). later.basis ≡ held.basis) Behind told (λ later is. behind held later over is) it.1,
+      )
+  began (Err e) came told over keeps leads none tells has =
+      let it : TellsCame (Err fault.CannotListen) told = subst (λ (c : Result (Option Held) CommandFault). TellsCame c told) none tells in
+      absurd (it.2 (subst HasRun it.1 has))
+
+-- what was begun, over the path that it was begun with
+pub begun_at : {E : Type 0} (begun : Result Held E) (held : Held) (path : List ℕ) (Q : List ℕ → AgreedValues → Type 0) → begun ≡ Ok held
+    → (IsOfText held.basis → Q (string_bytes held.basis.store) held.basis.agreed.agreements)
+    → IfOk begun (λ (h : Held). IsOfText h.basis → string_bytes h.basis.store ≡ path → Q path h.basis.agreed.agreements)
+begun_at {E} begun held path Q is leads =
+    subst (λ (r : Result Held E). IfOk r (λ (h : Held). IsOfText h.basis → string_bytes h.basis.store ≡ path → Q path h.basis.agreed.agreements)) (sym is)
+    (λ text same. subst (λ (p : List ℕ). Q p held.basis.agreed.agreements) same (leads text))
+
+-- where no station was asked for none has run
+pub none_run : (held : Option Held) (Q : Held → Type 0) → IfSome held (λ (h : Held). IsOfText h.basis → HasRun spanned.Elsewhere → Q h)
+none_run None Q = tt
+none_run (Some h) Q = λ text run. absurd run
+
+-- one that was to go on has gone on
+pub gone_on : {O Opened InMemory : Type 0} (g : Stores O Opened InMemory) (held : Option Held) (h : Held) (first : ℕ) (old new : O)
+    (came : Result (Option Held) CommandFault) (told : Spanned) → held ≡ Some h → TellsCame came told → IfOk came (KeepsBasis h.basis)
+    → (IsOfText h.basis → IfOk came (λ (_ : Option Held). LeadsOn g (string_bytes h.basis.store) h.basis.agreed.agreements first old new))
+    → IfSome held (λ (h : Held). IsOfText h.basis → HasRun told → GoesOnWith g h old new told)
+gone_on g held h first old new came told is tells keeps leads =
+    subst (λ (o : Option Held). IfSome o (λ (h : Held). IsOfText h.basis → HasRun told → GoesOnWith g h old new told)) (sym is) (λ text has.
+    let it = went h.basis (LeadsOn g (string_bytes h.basis.store) h.basis.agreed.agreements first old new) came told tells has (leads text) keeps in
+    record { first = first; leads = it.0; behind = it.1 })
+
+-- a refusal has no status of what is done
+pub is_refusal : (refusal : CommandFault) → refusal_status refusal ≡ status_done → ⊥
+is_refusal (fault.Store f) is = absurd cc
+is_refusal fault.CannotRead is = absurd cc
+is_refusal fault.CannotWrite is = absurd cc
+is_refusal fault.Exists is = absurd cc
+is_refusal fault.Memory is = absurd cc
+is_refusal (fault.Agreements f) is = absurd cc
+is_refusal (fault.Stream f) is = absurd cc
+is_refusal (fault.Station f) is = absurd cc
+is_refusal fault.CannotListen is = absurd cc
+is_refusal fault.NoStation is = absurd cc
+is_refusal fault.StationRuns is = absurd cc
+is_refusal fault.OtherAgreements is = absurd cc
