@@ -15,7 +15,9 @@ import running
 SEATS = 50  # connections to the control socket that say nothing
 OPENING = b"as2desk 1\n"
 RUNS = (1, b"", b"refused: StationRuns\n")
-CANNOT_LISTEN = (1, b"", b"refused: CannotListen\n")
+TAKEN, NOT_MADE, NO_SOCKET = (
+    (1, b"", b"hint: %s\nrefused: CannotListen\n" % hint)
+    for hint in (b"another program listens at that address", b"the control socket can't be made", b"what stands at the control socket's path is none"))
 # as another user: connects to each path, sends the bytes of the first word, and prints how often it was connected and how many bytes were answered
 INTRUDER = """
 import os, socket, sys, time
@@ -70,7 +72,7 @@ def second(given, folder, differences):
             differences.expect(f"two: run {words[2:]} over a store that has a station", ran, RUNS)
         taken = Desk(given.program, f"{folder}-taken")
         ran = taken.run("run", "--listen", "%s:%d" % station.address, patience=running.PATIENCE)
-        differences.expect("two: an address that is taken", ran, CANNOT_LISTEN)
+        differences.expect("two: an address that is taken", ran, TAKEN)
         differences.expect("two: what lies beside that store", left_behind(taken), [])
         differences.expect("two: the first goes on", half_closed(station, post_of(b"first")), ([200], b""))
         differences.expect("two: it stops", station.stop(), STOPPED)
@@ -125,14 +127,14 @@ def barred(given, folder, differences):
             with open(desk.path(path), "wb") as to:
                 to.write(content)
         ran = desk.run("run", "--listen", "127.0.0.1:0", "--control", desk.path(path), patience=running.PATIENCE)
-        differences.expect(f"two: --control {path}", ran, CANNOT_LISTEN)
+        differences.expect(f"two: --control {path}", ran, NO_SOCKET if path in ("kept", "station.db") else NOT_MADE)
         differences.expect(f"two: --control {path}: what lies beside the store", left_behind(desk), [])
         if content:
             with open(desk.path(path), "rb") as there:
                 differences.expect(f"two: --control {path}: what stands there", there.read(), content)
         differences.expect(f"two: --control {path}: the store opens", desk.run("list", "in"), (0, b"", b""))
     deep = Desk(given.program, folder + "-deep/" + "d" * 60 + "/" + "e" * 40)
-    differences.expect("two: a path of a store that is too long", deep.run("run", "--listen", "127.0.0.1:0", patience=running.PATIENCE), CANNOT_LISTEN)
+    differences.expect("two: a path of a store that is too long", deep.run("run", "--listen", "127.0.0.1:0", patience=running.PATIENCE), NOT_MADE)
     with Running(deep, "--control", folder + "-deep/own") as station:
         half_closed(station, post_of(b"deep-0"))
         differences.expect("two: a long path and --control: a command is done", (recorded(deep, b"deep"), station.stop()), ([0], STOPPED))

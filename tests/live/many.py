@@ -131,7 +131,8 @@ def room_for(count):
 
 def crowded(given, folder, differences, most, count, limit=None):
     """A station that serves no more than `most` at once, and `count` that connect: those it has are answered, the others once there is
-    room, as is a command; and it doesn't spin. What of a processor it used meanwhile."""
+    room, as is a command; and it doesn't spin. Where its places are taken, connections that wait for a request give way. What of a
+    processor it used meanwhile."""
     what, desk = f"{most} of {count}" if limit is None else f"{limit} descriptors", Desk(given.program, folder)
     with Running(desk, *PATIENT) as station:
         if limit:
@@ -147,7 +148,7 @@ def crowded(given, folder, differences, most, count, limit=None):
                 posters.drop(number)
             posters.run(running.PATIENCE)
             statuses = list(posters.replies.values())
-        differences.expect(f"{what}: served while others wait", most // 2 <= served <= most and is_full <= (limit or most + 1), True)
+        differences.expect(f"{what}: served while others wait", most // 2 <= served <= (most if limit else count) and is_full <= (limit or most + 1), True)
         differences.expect(f"{what}: it doesn't spin", used <= LOOKS * MOST_BUSY, True)
         differences.expect(f"{what}: all are answered in the end", (statuses.count(200), len(posters.cut)), (count, 0))
         differences.expect(f"{what}: a command that came meanwhile is done", asked.ended(10 + given.slack), 0)
