@@ -230,12 +230,16 @@ impl<R: Records> Records for Bounded<R> {
         self.records.find_out_by_id(alloc, id_value)
     }
 
-    fn due_out(&mut self, moment: Moment) -> Result<Option<u64>, StoreFault> {
-        self.records.due_out(moment)
+    fn due_out(&mut self, moment: Moment, behind: Option<u64>) -> Result<Option<u64>, StoreFault> {
+        self.records.due_out(moment, behind)
     }
 
-    fn due_receipt(&mut self, moment: Moment) -> Result<Option<u64>, StoreFault> {
-        self.records.due_receipt(moment)
+    fn due_receipt(
+        &mut self,
+        moment: Moment,
+        behind: Option<u64>,
+    ) -> Result<Option<u64>, StoreFault> {
+        self.records.due_receipt(moment, behind)
     }
 
     fn list_out(

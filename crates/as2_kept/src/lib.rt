@@ -140,12 +140,16 @@ impl<S: Alter> Records for Kept<S> {
         self.store.find_out_by_id(alloc, id_value)
     }
 
-    fn due_out(&mut self, moment: Moment) -> Result<Option<u64>, StoreFault> {
-        self.store.due_out(moment)
+    fn due_out(&mut self, moment: Moment, behind: Option<u64>) -> Result<Option<u64>, StoreFault> {
+        self.store.due_out(moment, behind)
     }
 
-    fn due_receipt(&mut self, moment: Moment) -> Result<Option<u64>, StoreFault> {
-        self.store.due_receipt(moment)
+    fn due_receipt(
+        &mut self,
+        moment: Moment,
+        behind: Option<u64>,
+    ) -> Result<Option<u64>, StoreFault> {
+        self.store.due_receipt(moment, behind)
     }
 
     fn list_out(

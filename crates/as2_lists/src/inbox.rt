@@ -1,14 +1,15 @@
 //! The inbox as a list.
 
-ghost use Rattle.std.specs.Prelude.{◌≡◌, ◌==◌, [], ◌∷◌, ◌++◌, if◌then◌else◌, map, find, IfOk, OnOk, OnErr, count_by, is_some, option_map};
+ghost use Rattle.std.specs.Prelude.{◌≡◌, ◌==◌, ◌&&◌, [], ◌∷◌, ◌++◌, if◌then◌else◌, map, find, IfOk, OnOk, OnErr, count_by, is_some, option_map};
 ghost use Rattle.as2_exchange.specs.OwedReceipts.{is_pending};
 ghost use Rattle.as2_exchange.specs.State.{has_key, same_key};
 ghost use Rattle.as2_exchange.specs.Due.{is_due_receipt};
+ghost use Rattle.as2_records.specs.Due.{is_behind};
 ghost use Rattle.as2_records.specs.Owing.{with_receipt_progress};
 ghost use Rattle.as2_records.specs.Summaries.{in_summary};
 
 use crate::copies::copy_entry;
-use crate::due::is_due;
+use crate::due::{is_behind, is_due};
 use crate::rows::in_row;
 use as2_exchange::{Attempt, InEntry, Posted, ReceiptStage};
 use as2_records::{InRow, ReceiptProgress};
@@ -96,11 +97,13 @@ fn is_due_receipt(moment: Moment, entry: &InEntry) -> bool
         && is_due(moment, entry.due)
 }
 
-/// The number of the first entry of whose receipt a try may begin at this moment, if there is one.
-pub fn first_due(entries: &[InEntry], moment: Moment) -> Option<u64>
-    ensures { result ≡ option_map (λ e. e.number) (find (is_due_receipt moment) entries.now) }
+/// The number of the first entry of whose receipt a try may begin at this moment, behind that number where one is given.
+pub fn first_due(entries: &[InEntry], moment: Moment, behind: Option<u64>) -> Option<u64>
+    ensures { result ≡ option_map (λ e. e.number)
+        (find (λ e. is_due_receipt moment e && is_behind behind e.number) entries.now) }
 {
-    let due = entries.iter().find(|entry| is_due_receipt(moment, entry));
+    let due = entries.iter().find(|entry| is_due_receipt(moment, entry)
+        && is_behind(behind, entry.number));
     match due {
         Some(entry) => Some(entry.number),
         None => None,

@@ -183,12 +183,16 @@ impl Records for Lists {
         Ok(copy_found_document(alloc, found)?)
     }
 
-    fn due_out(&mut self, moment: Moment) -> Result<Option<u64>, StoreFault> {
-        Ok(outbox::first_due(&self.outbox, moment))
+    fn due_out(&mut self, moment: Moment, behind: Option<u64>) -> Result<Option<u64>, StoreFault> {
+        Ok(outbox::first_due(&self.outbox, moment, behind))
     }
 
-    fn due_receipt(&mut self, moment: Moment) -> Result<Option<u64>, StoreFault> {
-        Ok(inbox::first_due(&self.inbox, moment))
+    fn due_receipt(
+        &mut self,
+        moment: Moment,
+        behind: Option<u64>,
+    ) -> Result<Option<u64>, StoreFault> {
+        Ok(inbox::first_due(&self.inbox, moment, behind))
     }
 
     fn list_out(

@@ -1,6 +1,6 @@
 //! The outbox as a list.
 
-ghost use Rattle.std.specs.Prelude.{◌≡◌, ◌==◌, [], ◌∷◌, ◌++◌, if◌then◌else◌, map, filter, find, IfOk, OnOk, OnErr, Some, true, not, count_by, is_some, option_map};
+ghost use Rattle.std.specs.Prelude.{◌≡◌, ◌==◌, ◌&&◌, [], ◌∷◌, ◌++◌, if◌then◌else◌, map, filter, find, IfOk, OnOk, OnErr, Some, true, not, count_by, is_some, option_map};
 ghost use Rattle.std.specs.List.{IsDistinct, position};
 ghost use Rattle.std.specs.Option.{option_map_or};
 ghost use Rattle.std.specs.Str.{bytes_eq};
@@ -9,12 +9,13 @@ ghost use Rattle.as2_exchange.specs.Readings.{value_of};
 ghost use Rattle.as2_exchange.specs.State.{is_settled};
 ghost use Rattle.as2_exchange.specs.Due.{is_due_document, may_begin};
 ghost use Rattle.as2_exchange.specs.Progress.{is_awaited, is_in, is_new};
+ghost use Rattle.as2_records.specs.Due.{is_behind};
 ghost use Rattle.as2_records.specs.Progressing.{come_to};
 ghost use Rattle.as2_records.specs.Resending.{queued_anew};
 ghost use Rattle.as2_records.specs.Summaries.{out_summary};
 
 use crate::copies::copy_document;
-use crate::due::is_due;
+use crate::due::{is_behind, is_due};
 use crate::rows::out_row;
 use as2_exchange::{Attempt, Evidence, OutEntry};
 use as2_mdn::{Detail, DetailClass};
@@ -224,13 +225,13 @@ fn is_due_document(moment: Moment, document: &OutEntry) -> bool
     may_begin(document.detail, document.attempt) && is_due(moment, document.due)
 }
 
-/// The number of the first document of which a try may begin at this moment, if there is one.
-pub fn first_due(documents: &[OutEntry], moment: Moment) -> Option<u64>
-    ensures { result ≡ option_map (λ d. d.number) (find (is_due_document moment) documents.now) }
+/// The number of the first document of which a try may begin at this moment, behind that number where one is given.
+pub fn first_due(documents: &[OutEntry], moment: Moment, behind: Option<u64>) -> Option<u64>
+    ensures { result ≡ option_map (λ d. d.number)
+        (find (λ d. is_due_document moment d && is_behind behind d.number) documents.now) }
 {
-    let due = documents
-        .iter()
-        .find(|document| is_due_document(moment, document));
+    let due = documents.iter().find(|document| is_due_document(moment, document)
+        && is_behind(behind, document.number));
     match due {
         Some(document) => Some(document.number),
         None => None,

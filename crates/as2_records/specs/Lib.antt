@@ -2,6 +2,7 @@ pub mod Standing
 pub mod Calls
 pub mod Adding
 pub mod Counting
+pub mod Due
 pub mod Summaries
 pub mod Expiring
 pub mod Finding

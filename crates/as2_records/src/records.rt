@@ -9,6 +9,7 @@ ghost use Rattle.as2_records.specs.Summaries.{in_summary};
 ghost use Rattle.as2_records.specs.Counting.{counts_of};
 ghost use Rattle.as2_records.specs.Adding.{state_with, added_document};
 ghost use Rattle.as2_records.specs.Calls.{Lasts, Reads, Writes};
+ghost use Rattle.as2_records.specs.Due.{numbers_behind};
 ghost use Rattle.as2_records.specs.Expiring.{TicksAs, ticked_in};
 ghost use Rattle.as2_records.specs.Finding.{AreNext, IsPostedAs};
 ghost use Rattle.as2_records.specs.Listing.{listed_rows, settled_numbers};
@@ -140,18 +141,22 @@ pub trait Records {
             ≡ document_named s id_value.now) (shows self.old) (shows self.new) result }
         ensures fault { IfErr result (λ f. may_come f ≡ true) };
 
-    /// The least number of the documents of which a try may begin at this moment, if there is one. Answers Memory, Disk, Refused or
-    /// Damaged.
-    fn due_out(&mut self, moment: Moment) -> Result<Option<u64>, StoreFault>
+    /// The least number of the documents of which a try may begin at this moment, behind that number where one is given; None where there
+    /// is none. Answers Memory, Disk, Refused or Damaged.
+    fn due_out(&mut self, moment: Moment, behind: Option<u64>) -> Result<Option<u64>, StoreFault>
         ensures due { Reads (λ s number. number
-            ≡ least (due_documents s moment)) (shows self.old) (shows self.new) result }
+            ≡ least (numbers_behind behind (due_documents s moment))) (shows self.old) (shows self.new) result }
         ensures fault { IfErr result (λ f. may_come f ≡ true) };
 
-    /// The least number of the receipts of which a try may begin at this moment, if there is one. Answers Memory, Disk, Refused or
-    /// Damaged.
-    fn due_receipt(&mut self, moment: Moment) -> Result<Option<u64>, StoreFault>
+    /// The least number of the receipts of which a try may begin at this moment, behind that number where one is given; None where there is
+    /// none. Answers Memory, Disk, Refused or Damaged.
+    fn due_receipt(
+        &mut self,
+        moment: Moment,
+        behind: Option<u64>,
+    ) -> Result<Option<u64>, StoreFault>
         ensures due { Reads (λ s number. number
-            ≡ least (due_receipts s moment)) (shows self.old) (shows self.new) result }
+            ≡ least (numbers_behind behind (due_receipts s moment))) (shows self.old) (shows self.new) result }
         ensures fault { IfErr result (λ f. may_come f ≡ true) };
 
     /// The documents of that state, or all, in order of number, each with the length of its content in place of the content,

@@ -101,11 +101,19 @@ impl Records for ShutRecords {
         Err(StoreFault::Disk)
     }
 
-    fn due_out(&mut self, _moment: Moment) -> Result<Option<u64>, StoreFault> {
+    fn due_out(
+        &mut self,
+        _moment: Moment,
+        _behind: Option<u64>,
+    ) -> Result<Option<u64>, StoreFault> {
         Err(StoreFault::Disk)
     }
 
-    fn due_receipt(&mut self, _moment: Moment) -> Result<Option<u64>, StoreFault> {
+    fn due_receipt(
+        &mut self,
+        _moment: Moment,
+        _behind: Option<u64>,
+    ) -> Result<Option<u64>, StoreFault> {
         Err(StoreFault::Disk)
     }
 

@@ -1,4 +1,5 @@
 pub mod Closing
+pub mod Due
 pub mod Heads
 pub mod OwedTries
 pub mod Resending

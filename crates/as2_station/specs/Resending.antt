@@ -1,5 +1,5 @@
 -- Why a document isn't sent anew.
-use Rattle.std.specs.Prelude.{Bool, not, Option, Some, None, is_some, if◌then◌else◌}
+use Rattle.std.specs.Prelude.{not, Option, Some, None, is_some, if◌then◌else◌}
 use Rattle.as2_mdn.specs.Details.{class_of}
 use Rattle.as2_exchange.specs.Agreement.{Agreements, is_organization, partner_of}
 use Rattle.as2_exchange.specs.Documents.{is_error}

@@ -4,6 +4,7 @@
 
 mod agreed;
 mod closing;
+mod destinations;
 mod owed;
 mod receipts;
 mod receiving;

@@ -14,8 +14,10 @@ ghost use Rattle.as2_posts.specs.Openings.{reading_by};
 ghost use Rattle.as2_station.specs.Said.{begin_event, outcome_event, said_to_begin, said_to_outcome, said_to_resend, said_to_submit};
 ghost use Rattle.as2_station.specs.Steps.{ClashesWhole, RefusesSubmit, TakesEvent, TakesHead, TakesPost, always};
 ghost use Rattle.as2_station.specs.Traces.{Plays, TakesEvents};
+ghost use Rattle.as2_station.specs.Due.{destination, document_from, next_behind, next_from};
 
 use crate::closing::close;
+use crate::destinations::destination;
 use crate::owed::{begin_receipt, close_receipt};
 use crate::receiving::receive;
 use crate::recording::record;
@@ -30,7 +32,7 @@ use crate::ticking::tick;
 use crate::trying::begin;
 use crate::viewing;
 use as2_agreement::Agreements;
-use as2_exchange::{Answer, Event, HttpAnswer, Next, StoreFault, TryAnswer};
+use as2_exchange::{Answer, Bytes, Event, HttpAnswer, Next, StoreFault, TryAnswer};
 use as2_mic::Pieces;
 use as2_posts::{Opened, document, open};
 use as2_records::Records;
@@ -270,13 +272,71 @@ impl<R: Records> Station<R> {
         ensures least { Reads (λ s found. IsNext s moment found) (R.shows self.old) (R.shows self.new) result }
         ensures fault { IfErr result (λ f. may_come f ≡ true) }
     {
-        if let Some(number) = self.records.due_receipt(moment)? {
+        self.next_receipt(moment, None)
+    }
+
+    /// What is to be sent next at this moment behind what was looked at last: behind a receipt the due receipt of the next number, or
+    /// else the due document of the least number; behind a document the due document of the next number; or nothing. Where nothing
+    /// was looked at it is what `next` answers. Answers Memory, Disk or Refused.
+    pub fn next_behind(
+        &mut self,
+        moment: Moment,
+        last: Option<Next>,
+    ) -> Result<Option<Next>, StoreFault>
+        ensures next { Reads (λ s found. found ≡ next_behind s moment last) (R.shows self.old) (R.shows self.new) result }
+        ensures fault { IfErr result (λ f. may_come f ≡ true) }
+    {
+        match last {
+            Some(Next::Document(number)) => self.next_document(moment, Some(number)),
+            Some(Next::Receipt(number)) => self.next_receipt(moment, Some(number)),
+            None => self.next_receipt(moment, None),
+        }
+    }
+
+    /// The due receipt of the least number behind that one, or else the due document of the least number.
+    fn next_receipt(
+        &mut self,
+        moment: Moment,
+        behind: Option<u64>,
+    ) -> Result<Option<Next>, StoreFault>
+        ensures next { Reads (λ s found. found ≡ next_from s moment behind) (R.shows self.old) (R.shows self.new) result }
+        ensures fault { IfErr result (λ f. may_come f ≡ true) }
+    {
+        if let Some(number) = self.records.due_receipt(moment, behind)? {
             return Ok(Some(Next::Receipt(number)));
         }
-        match self.records.due_out(moment)? {
+        self.next_document(moment, None)
+    }
+
+    /// The due document of the least number behind that one.
+    fn next_document(
+        &mut self,
+        moment: Moment,
+        behind: Option<u64>,
+    ) -> Result<Option<Next>, StoreFault>
+        ensures next { Reads (λ s found. found ≡ document_from s moment behind) (R.shows self.old) (R.shows self.new) result }
+        ensures fault { IfErr result (λ f. may_come f ≡ true) }
+    {
+        match self.records.due_out(moment, behind)? {
             Some(number) => Ok(Some(Next::Document(number))),
             None => Ok(None),
         }
+    }
+
+    /// The address that a request for it goes to: its partner's, or that at which its receipt is asked for. None where there is no such
+    /// entry, where the document's partner isn't agreed, and where no receipt is asked for at an address. Answers Memory, Disk, Refused
+    /// or Damaged.
+    pub fn destination(
+        &mut self,
+        alloc: Global,
+        agreements: &Agreements,
+        what: Next,
+    ) -> Result<Option<Bytes>, StoreFault>
+        ensures destination { Reads (λ s found. found ≡ destination agreements.now s what)
+            (R.shows self.old) (R.shows self.new) result }
+        ensures fault { IfErr result (λ f. may_come f ≡ true) }
+    {
+        destination(&mut self.records, alloc, agreements, what)
     }
 
     /// The listing that is asked for, a line each, in order of number. Answers Memory, Disk or Refused.

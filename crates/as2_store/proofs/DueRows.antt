@@ -26,11 +26,13 @@ use Rattle.as2_exchange.specs.Due.{least, smaller}
 use Rattle.as2_exchange.specs.declared.inbox.InEntry.{InEntry}
 use Rattle.as2_exchange.specs.declared.outbox.OutEntry.{OutEntry}
 use Rattle.as2_exchange.proofs.Lists.{all_weaken}
+use Rattle.as2_records.specs.Due.{is_behind, numbers_behind}
+use Rattle.as2_records.proofs.Behind.{those_behind}
 use Rattle.as2_rows.specs.Rows.{whole, whole_or_null}
 use Rattle.as2_rows.specs.Waiting.{WaitingRow, waiting_in, to_send, to_send_receipt, to_hear, to_end}
 use Rattle.as2_store.specs.Tables.{Layout, store_schema, waiting_tree}
 use Rattle.as2_store.specs.Stands.{Stands, Rests, place, waiting_row, documents_waiting, all_waiting}
-use Rattle.as2_store.specs.Due.{due_waiting, due_numbers, number_rows}
+use Rattle.as2_store.specs.Due.{due_numbers, least_behind, number_rows}
 use Rattle.as2_store.proofs.Statements.{any_due_text, least_due_text}
 use Rattle.as2_store.proofs.Texts.{due_columns, any_due_terms, any_due_is, any_due_plain, any_due_unlisted, least_due_terms, least_due_is, least_due_plain, least_due_unlisted}
 use Rattle.as2_store.proofs.QueriedRows.{and_true}
@@ -50,26 +52,65 @@ any_params kind m = Int (pos kind) ∷ Int (pos m) ∷ []
 pub any_passes : (kind m : ℕ) (w : WaitingRow) → passes any_due_terms (any_params kind m) (waiting_row w) ≡ (w.kind == kind && is_due m w.due)
 any_passes kind m w = ap₂ ◌&&◌ (numbers_equal w.kind kind) (ap (λ b. b && true) (has_come m w.due) ∙ and_true _)
 
-abbrev pub least_params : ℕ → ℕ → Row
-least_params kind m = Int (pos (kind * end_of_numbers)) ∷ Int (pos ((kind + 1) * end_of_numbers)) ∷ Int (pos m) ∷ []
+abbrev pub least_params : ℕ → Option ℕ → ℕ → Row
+least_params kind b m = Int (pos (kind * end_of_numbers + least_behind b)) ∷ Int (pos ((kind + 1) * end_of_numbers)) ∷ Int (pos m) ∷ []
 
--- it stands at a place of this kind, and is due
-abbrev is_between : ℕ → ℕ → WaitingRow → Bool
-is_between kind m w = nat_le (kind * end_of_numbers) (place w) && (nat_lt (place w) ((kind + 1) * end_of_numbers) && is_due m w.due)
+-- it stands at a place of this kind that is behind, and is due
+abbrev is_between : ℕ → Option ℕ → ℕ → WaitingRow → Bool
+is_between kind b m w =
+    nat_le (kind * end_of_numbers + least_behind b) (place w) && (nat_lt (place w) ((kind + 1) * end_of_numbers) && is_due m w.due)
 
-least_passes : (kind m : ℕ) (w : WaitingRow) → passes least_due_terms (least_params kind m) (waiting_row w) ≡ is_between kind m w
-least_passes kind m w = ap₂ ◌&&◌ (numbers_at_least (place w) (kind * end_of_numbers))
+least_passes : (kind : ℕ) (b : Option ℕ) (m : ℕ) (w : WaitingRow)
+    → passes least_due_terms (least_params kind b m) (waiting_row w) ≡ is_between kind b m w
+least_passes kind b m w = ap₂ ◌&&◌ (numbers_at_least (place w) (kind * end_of_numbers + least_behind b))
     (ap₂ ◌&&◌ (numbers_below (place w) ((kind + 1) * end_of_numbers)) (ap (λ b. b && true) (has_come m w.due) ∙ and_true _))
 
--- so it is of the kind, since its number is one that is given
-same_kind : (kind m : ℕ) (w : WaitingRow) → w.number < end_of_numbers → is_between kind m w ≡ (w.kind == kind && is_due m w.due)
-same_kind kind m w small =
-    joined (nat_le (kind * end_of_numbers) (place w)) (nat_lt (place w) ((kind + 1) * end_of_numbers)) (w.kind == kind) (is_due m w.due)
-    (grind (arith, nat_tests, small))
+-- it is of the kind, due and behind
+abbrev is_due_behind : ℕ → Option ℕ → ℕ → WaitingRow → Bool
+is_due_behind kind b m w = (w.kind == kind && is_due m w.due) && is_behind b w.number
+
+behind_all : (kind k n : ℕ) → n < end_of_numbers
+    → (nat_le (kind * end_of_numbers + 0) (k * end_of_numbers + n) && nat_lt (k * end_of_numbers + n) ((kind + 1) * end_of_numbers)) ≡ ((k == kind) && true)
+behind_all kind k n small = grind (arith, nat_tests, small)
+
+behind_one : (kind k n last : ℕ) → n < end_of_numbers
+    → (nat_le (kind * end_of_numbers + (last + 1)) (k * end_of_numbers + n) && nat_lt (k * end_of_numbers + n) ((kind + 1) * end_of_numbers))
+    ≡ ((k == kind) && nat_lt last n)
+behind_one kind k n last small = grind (arith, nat_tests, small)
+
+behind_end : (kind k n last : ℕ) → n < end_of_numbers → nat_lt last end_of_numbers ≡ false
+    → (nat_le (kind * end_of_numbers + end_of_numbers) (k * end_of_numbers + n) && nat_lt (k * end_of_numbers + n) ((kind + 1) * end_of_numbers))
+    ≡ ((k == kind) && nat_lt last n)
+behind_end kind k n last small past = grind (arith, nat_tests, small, past)
+
+-- a place is one of the kind that is behind, where the number at it is one that is given
+places_behind : (kind : ℕ) (b : Option ℕ) (k n : ℕ) → n < end_of_numbers
+    → (nat_le (kind * end_of_numbers + least_behind b) (k * end_of_numbers + n) && nat_lt (k * end_of_numbers + n) ((kind + 1) * end_of_numbers))
+    ≡ ((k == kind) && is_behind b n)
+places_behind kind None k n small = behind_all kind k n small
+places_behind kind (Some last) k n small = go (nat_lt last end_of_numbers) refl
   where
-    joined : (a b c d : Bool) → (a && b) ≡ c → (a && (b && d)) ≡ (c && d)
-    joined true b c d is = ap (λ t. t && d) is
-    joined false b c d is = ap (λ t. t && d) is
+    go : (t : Bool) → nat_lt last end_of_numbers ≡ t
+        → (nat_le (kind * end_of_numbers + cond t (last + 1) end_of_numbers) (k * end_of_numbers + n)
+        && nat_lt (k * end_of_numbers + n) ((kind + 1) * end_of_numbers)) ≡ ((k == kind) && nat_lt last n)
+    go true is = behind_one kind k n last small
+    go false is = behind_end kind k n last small is
+
+same_kind : (kind : ℕ) (b : Option ℕ) (m : ℕ) (w : WaitingRow) → w.number < end_of_numbers → is_between kind b m w ≡ is_due_behind kind b m w
+same_kind kind b m w small =
+    joined (nat_le (kind * end_of_numbers + least_behind b) (place w)) (nat_lt (place w) ((kind + 1) * end_of_numbers)) (w.kind == kind)
+    (is_behind b w.number) (is_due m w.due) (places_behind kind b w.kind w.number small)
+  where
+    turned : (c e d : Bool) → ((c && e) && d) ≡ ((c && d) && e)
+    turned true true true = refl
+    turned true true false = refl
+    turned true false true = refl
+    turned true false false = refl
+    turned false e d = refl
+
+    joined : (a f c e d : Bool) → (a && f) ≡ (c && e) → (a && (f && d)) ≡ ((c && d) && e)
+    joined true f c e d is = ap (λ t. t && d) is ∙ turned c e d
+    joined false f c e d is = ap (λ t. t && d) is ∙ turned c e d
 
 -- ---- what waits
 
@@ -88,16 +129,16 @@ numbers_small t s it =
     (ins_small end_of_numbers s.inbox ins))
     (all-append (λ w. w.number < end_of_numbers) (documents_waiting to_hear s.outbox) (documents_waiting to_end s.outbox) (of to_hear) (of to_end)))
 
-of_the_kind : (kind m : ℕ) (ws : List WaitingRow) → AllByRecursion (λ w. w.kind ≡ kind) (filter (λ w. w.kind == kind && is_due m w.due) ws)
-of_the_kind kind m [] = tt
-of_the_kind kind m (w ∷ ws) = go (w.kind == kind) refl (is_due m w.due) (of_the_kind kind m ws)
+of_the_kind : (kind : ℕ) (b : Option ℕ) (m : ℕ) (ws : List WaitingRow) → AllByRecursion (λ w. w.kind ≡ kind) (filter (is_due_behind kind b m) ws)
+of_the_kind kind b m [] = tt
+of_the_kind kind b m (w ∷ ws) = go (w.kind == kind) refl (is_due m w.due) (is_behind b w.number) (of_the_kind kind b m ws)
   where
-    go : (t : Bool) → (w.kind == kind) ≡ t → (d : Bool) → AllByRecursion (λ w. w.kind ≡ kind) (filter (λ w. w.kind == kind && is_due m w.due) ws)
-        → AllByRecursion (λ w. w.kind ≡ kind)
-        (cond (t && d) (w ∷ filter (λ w. w.kind == kind && is_due m w.due) ws) (filter (λ w. w.kind == kind && is_due m w.due) ws))
-    go true is true rest = ((grind (arith, nat_tests, is)), rest)
-    go true is false rest = rest
-    go false is d rest = rest
+    go : (t : Bool) → (w.kind == kind) ≡ t → (d e : Bool) → AllByRecursion (λ w. w.kind ≡ kind) (filter (is_due_behind kind b m) ws)
+        → AllByRecursion (λ w. w.kind ≡ kind) (cond ((t && d) && e) (w ∷ filter (is_due_behind kind b m) ws) (filter (is_due_behind kind b m) ws))
+    go true is true true rest = ((grind (arith, nat_tests, is)), rest)
+    go true is true false rest = rest
+    go true is false e rest = rest
+    go false is d e rest = rest
 
 abbrev IsEarlier : WaitingRow → WaitingRow → Type 0
 IsEarlier v w = value_cmp (Int (pos (place v))) (Int (pos (place w))) ≡ Less
@@ -172,20 +213,22 @@ finds_none kind m old new rows h s r none =
     unmapped [] is = refl
     unmapped (w ∷ ws) is = absurd cc
 
-pub finds_least : (kind m : ℕ) (old new : Connected) (rows : List Row) → Shown least_due_text (least_params kind m) old new rows → (s : State) → Rests old s
-    → rows ≡ number_rows (least (due_numbers kind m s))
-finds_least kind m old new rows h s r =
-    let here = r.stands (shown_open least_due_text (least_params kind m) old new rows h) in
+pub finds_least : (kind : ℕ) (b : Option ℕ) (m : ℕ) (old new : Connected) (rows : List Row) → Shown least_due_text (least_params kind b m) old new rows
+    → (s : State) → Rests old s → rows ≡ number_rows (least (numbers_behind b (due_numbers kind m s)))
+finds_least kind b m old new rows h s r =
+    let here = r.stands (shown_open least_due_text (least_params kind b m) old new rows h) in
     let way = here.way in
     let it = here.stands in
-    let read = reads_as least_due_text (least_params kind m) old new (store_schema way) it.schema
+    let read = reads_as least_due_text (least_params kind b m) old new (store_schema way) it.schema
     (Select (record { lets = []; body = over_table waiting_tree least_due_terms due_columns by_number (lit (Int (pos 1))) }) _)
     (least_due_is way) (least_due_plain way) (least_due_unlisted way) rows h in
     let table = places_in_order old.now s it in
-    let up = ascending-filter _ (λ w. w.kind == kind && is_due m w.due) (all_waiting s) (ascending_from_map _ waiting_row (all_waiting s) table) in
-    shows_entries waiting_tree least_due_terms due_columns (lit (Int (pos 1))) old.now.trees (least_params kind m) rows waiting_row
-    (is_between kind m) number_shown (least_passes kind m) (λ _. refl) (all_waiting s) it.entries.waits table read.answer
-    ∙ ap (λ ws. take 1 (map number_shown ws)) (filter_same (is_between kind m) (λ w. w.kind == kind && is_due m w.due) (all_waiting s)
-    (all_weaker (λ w. w.number < end_of_numbers) (λ w. is_between kind m w ≡ (w.kind == kind && is_due m w.due))
-    (λ w small. same_kind kind m w small) (all_waiting s) (numbers_small old s it)))
-    ∙ first_shown (due_waiting kind m s) (numbers_rise kind (due_waiting kind m s) (of_the_kind kind m (all_waiting s)) up)
+    let found = filter (is_due_behind kind b m) (all_waiting s) in
+    let up = ascending-filter _ (is_due_behind kind b m) (all_waiting s) (ascending_from_map _ waiting_row (all_waiting s) table) in
+    shows_entries waiting_tree least_due_terms due_columns (lit (Int (pos 1))) old.now.trees (least_params kind b m) rows waiting_row
+    (is_between kind b m) number_shown (least_passes kind b m) (λ _. refl) (all_waiting s) it.entries.waits table read.answer
+    ∙ ap (λ ws. take 1 (map number_shown ws)) (filter_same (is_between kind b m) (is_due_behind kind b m) (all_waiting s)
+    (all_weaker (λ w. w.number < end_of_numbers) (λ w. is_between kind b m w ≡ is_due_behind kind b m w)
+    (λ w small. same_kind kind b m w small) (all_waiting s) (numbers_small old s it)))
+    ∙ first_shown found (numbers_rise kind found (of_the_kind kind b m (all_waiting s)) up)
+    ∙ ap (λ ks. number_rows (least ks)) (those_behind (λ (w : WaitingRow). w.number) (λ w. w.kind == kind && is_due m w.due) b (all_waiting s))

@@ -1,13 +1,15 @@
 //! What is due, by the rows of what waits.
 
-ghost use Rattle.std.specs.Prelude.{◌≡◌, [], true, false, Option, ℕ, IfOk, IfErr};
+ghost use Rattle.std.specs.Prelude.{◌≡◌, ◌≤◌, [], true, false, Option, ℕ, IfOk, IfErr};
 ghost use Rattle.sqlite.specs.Held.{state};
 ghost use Rattle.as2_exchange.specs.Due.{least};
+ghost use Rattle.as2_exchange.specs.State.{end_of_numbers};
+ghost use Rattle.as2_records.specs.Due.{numbers_behind};
 ghost use Rattle.as2_rows.specs.Waiting.{kind_code};
 ghost use Rattle.as2_store.specs.Calls.{ReadsTables};
 ghost use Rattle.as2_exchange.specs.declared.place.Table.TheVariants as table;
 ghost use Rattle.as2_records.specs.Standing.{may_come};
-ghost use Rattle.as2_store.specs.Due.{due_numbers, number_rows};
+ghost use Rattle.as2_store.specs.Due.{due_numbers, least_behind, number_rows};
 ghost use Rattle.as2_store.specs.Stands.{comes_of, is_row_of};
 
 use crate::fault::{fault_of, unread_column};
@@ -38,19 +40,32 @@ fn any_due_rows<S: Alter>(
     )
 }
 
-/// The row of the least number of what is due and waits so.
+/// The least number that is behind that one, where one is given; no entry has the end of numbers.
+fn least_behind(behind: Option<u64>) -> u64
+    ensures least { result ≡ least_behind behind }
+    ensures most { result ≤ end_of_numbers }
+{
+    match behind {
+        Some(last) if last < END_OF_NUMBERS => last + 1,
+        Some(_) => END_OF_NUMBERS,
+        None => 0,
+    }
+}
+
+/// The row of the least number of what is due and waits so, behind that number where one is given.
 fn least_due_rows<S: Alter>(
     conn: &mut Connection<S>,
     wait: Wait,
     moment: Moment,
+    behind: Option<u64>,
 ) -> Result<Vec<Row>, Error>
     requires autocommit { conn.old.in_transaction ≡ false }
     ensures autocommit { conn.new.in_transaction ≡ false }
     ensures rows { ReadsTables (λ s rows. rows.items
-        ≡ number_rows (least (due_numbers (kind_code wait) moment s))) (state S.Store conn.old) (state S.Store conn.new)
-        result }
+        ≡ number_rows (least (numbers_behind behind (due_numbers (kind_code wait) moment s)))) (state S.Store conn.old)
+        (state S.Store conn.new) result }
 {
-    let first = whole(wait.code() * END_OF_NUMBERS);
+    let first = whole(wait.code() * END_OF_NUMBERS + least_behind(behind));
     let end = whole((wait.code() + 1) * END_OF_NUMBERS);
     let moment = whole(moment.seconds());
     query_all(
@@ -70,17 +85,19 @@ fn number_in(rows: &[Row]) -> Result<Option<u64>, Error>
     }
 }
 
-/// The least number of what is due at this moment and waits so, if there is one. Where nothing is due that is found by the
-/// index; the rows are read in order of their places only where something is.
+/// The least number of what is due at this moment and waits so, behind that number where one is given; None where there is none. Where
+/// nothing is due that is found by the index; the rows are read in order of their places only where something is.
 pub fn least_due<S: Alter>(
     conn: &mut Connection<S>,
     wait: Wait,
     moment: Moment,
+    behind: Option<u64>,
 ) -> Result<Option<u64>, StoreFault>
     requires autocommit { conn.old.in_transaction ≡ false }
     ensures autocommit { conn.new.in_transaction ≡ false }
     ensures due { ReadsTables (λ s number. number
-        ≡ least (due_numbers (kind_code wait) moment s)) (state S.Store conn.old) (state S.Store conn.new) result }
+        ≡ least (numbers_behind behind (due_numbers (kind_code wait) moment s))) (state S.Store conn.old)
+        (state S.Store conn.new) result }
     ensures fault { IfErr result (λ f. may_come f ≡ true) }
     ensures row { IfErr result (λ f. comes_of (is_row_of table.Waiting) f ≡ true) }
 {
@@ -88,7 +105,7 @@ pub fn least_due<S: Alter>(
     if any.is_empty() {
         return Ok(None);
     }
-    let rows = least_due_rows(conn, wait, moment).map_err(fault_of)?;
+    let rows = least_due_rows(conn, wait, moment, behind).map_err(fault_of)?;
     let place = RowPlace {
         table: Table::Waiting,
         number: 0,

@@ -8,6 +8,7 @@ ghost use Rattle.as2_exchange.specs.Due.{due_documents, due_receipts, least};
 ghost use Rattle.as2_exchange.specs.declared.fault.StoreFault.TheVariants.{Full};
 ghost use Rattle.as2_records.specs.Summaries.{in_summary};
 ghost use Rattle.as2_records.specs.Counting.{counts_of};
+ghost use Rattle.as2_records.specs.Due.{numbers_behind};
 ghost use Rattle.as2_records.specs.Listing.{settled_numbers, listed_rows};
 ghost use Rattle.as2_records.specs.Adding.{state_with, added_document};
 ghost use Rattle.as2_store.specs.Calls.{Adopts, CommitsTables, CommitsFirst, Creates, IsGivenBack, IsReason, ReadsTables, WritesTables};
@@ -381,26 +382,34 @@ impl<S: Alter> Store<S> {
         evidence_in(&mut self.conn, alloc, number)
     }
 
-    /// The least number of the documents of which a try may begin at this moment, if there is one. Answers Memory, Disk, Refused or
-    /// Damaged.
-    pub fn due_out(&mut self, moment: Moment) -> Result<Option<u64>, StoreFault>
+    /// The least number of the documents of which a try may begin at this moment, behind that number where one is given; None where there
+    /// is none. Answers Memory, Disk, Refused or Damaged.
+    pub fn due_out(
+        &mut self,
+        moment: Moment,
+        behind: Option<u64>,
+    ) -> Result<Option<u64>, StoreFault>
         ensures due { ReadsTables (λ s number. number
-            ≡ least (due_documents s moment)) (state S.Store self.old) (state S.Store self.new) result }
+            ≡ least (numbers_behind behind (due_documents s moment))) (state S.Store self.old) (state S.Store self.new) result }
         ensures fault { IfErr result (λ f. may_come f ≡ true) }
         ensures row { IfErr result (λ f. comes_of (is_row_of table.Waiting) f ≡ true) }
     {
-        least_due(&mut self.conn, Wait::ToSend, moment)
+        least_due(&mut self.conn, Wait::ToSend, moment, behind)
     }
 
-    /// The least number of the receipts of which a try may begin at this moment, if there is one. Answers Memory, Disk, Refused or
-    /// Damaged.
-    pub fn due_receipt(&mut self, moment: Moment) -> Result<Option<u64>, StoreFault>
+    /// The least number of the receipts of which a try may begin at this moment, behind that number where one is given; None where there
+    /// is none. Answers Memory, Disk, Refused or Damaged.
+    pub fn due_receipt(
+        &mut self,
+        moment: Moment,
+        behind: Option<u64>,
+    ) -> Result<Option<u64>, StoreFault>
         ensures due { ReadsTables (λ s number. number
-            ≡ least (due_receipts s moment)) (state S.Store self.old) (state S.Store self.new) result }
+            ≡ least (numbers_behind behind (due_receipts s moment))) (state S.Store self.old) (state S.Store self.new) result }
         ensures fault { IfErr result (λ f. may_come f ≡ true) }
         ensures row { IfErr result (λ f. comes_of (is_row_of table.Waiting) f ≡ true) }
     {
-        least_due(&mut self.conn, Wait::ToSendReceipt, moment)
+        least_due(&mut self.conn, Wait::ToSendReceipt, moment, behind)
     }
 
     /// The documents of that state, or all, in order of number, each with the length of its content in place of the content,

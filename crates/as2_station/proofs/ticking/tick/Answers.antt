@@ -1,4 +1,3 @@
-use Rattle.std.proofs.Common.{Result, Ok, Err}
 use Rattle.as2_station.proofs.Ticked.{ticked}
 use Rattle.as2_station.proofs.ticking.tick.Goals as goal
 

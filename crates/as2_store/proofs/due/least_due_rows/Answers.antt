@@ -1,7 +1,8 @@
-use Rattle.std.proofs.Common.{◌+◌, ◌*◌, ◌≤◌, arith}
+use Rattle.std.proofs.Common.{◌+◌, ◌*◌, ◌≤◌, sym, arith}
 use Rattle.sqlite.specs.Held.{state}
 use Rattle.sqlite.specs.State.{Shown}
 use Rattle.as2_rows.specs.Waiting.{kind_code}
+use Rattle.as2_store.specs.Due.{least_behind}
 use Rattle.as2_store.proofs.Statements.{least_due_text}
 use Rattle.as2_store.proofs.Texts.{least_due_plain}
 use Rattle.as2_store.proofs.Querying.{reads_less}
@@ -17,10 +18,11 @@ returns-clause-rows g c =
     let old = state g.S.Store c.args.conn.now in
     let kind = kind_code c.args.wait in
     let m = c.args.moment in
+    let b = c.args.behind in
     let most : kind ≤ 4 = rw c.code.ensures.code at c.code.ensures.most in
     reads_less _ _ old (state g.S.Store c.query_all.new.conn) c.query_all.result
     (λ s rows r shown.
-    let it : Shown least_due_text (least_params kind m) old old rows.items =
+    let it : Shown least_due_text (least_params kind b m) old old rows.items =
     rw (
       c.params-to_sql.ensures,
       c.params-to_sql-2.ensures,
@@ -31,8 +33,9 @@ returns-clause-rows g c =
       c.code-2.ensures.code,
       c.whole-moment.ensures,
       c.seconds.ensures.seconds,
-      fits_i64 (kind * 1000000000000) (omega (arith, most)),
+      c.least_behind.ensures.least,
+      fits_i64 (kind * 1000000000000 + least_behind b) (omega (arith, most, sym c.least_behind.ensures.least, c.least_behind.ensures.most)),
       fits_i64 ((kind + 1) * 1000000000000) (omega (arith, most)),
       fits_i64 m (omega (arith, c.seconds.ensures.bound, c.seconds.ensures.seconds)),
     ) at shown in
-    finds_least kind m old old rows.items it s r) c.query_all.ensures.shown
+    finds_least kind b m old old rows.items it s r) c.query_all.ensures.shown

@@ -6,7 +6,7 @@ use Rattle.as2_exchange.specs.declared.answer.Answer.TheVariants.{Http}
 use Rattle.as2_station.specs.Steps.{ClashesWhole, TakesPost, always}
 use Rattle.as2_exchange.specs.declared.event.Event.TheVariants.{Post}
 use Rattle.as2_station.proofs.ByHistory.{takes_event}
-use Rattle.as2_station.proofs.Doing.{at_once, by_state}
+use Rattle.as2_station.proofs.Doing.{by_state}
 use Rattle.as2_station.proofs.station.Station.post.Goals as goal
 
 pub returns-in-Ok-clause-taken : goal.returns-in-Ok-clause-taken
