@@ -77,8 +77,9 @@ operating_one : (values own : List Row) (a b : GivenOperating) → AsksOperate v
 operating_one values own a b x y =
     ap (λ (t : List ℕ). record a { address = t }) (path_one _ a.address b.address x.listens y.listens)
     ∙ ap (λ (c : Option (List ℕ)). record a { address = b.address; control = c }) (sym x.control ∙ y.control)
-    ∙ ap (λ (w : ServingWaits). record b { waits = w; moment = a.moment }) (serving_waits_one a.waits b.waits
+    ∙ ap (λ (w : ServingWaits). record b { waits = w; receipts_to = a.receipts_to; moment = a.moment }) (serving_waits_one a.waits b.waits
     (number_one _ a.waits.seconds b.waits.seconds x.wait.number y.wait.number) (number_one _ a.waits.idle b.waits.idle x.idle.number y.idle.number))
+    ∙ ap (λ (r : Option (List ℕ)). record b { receipts_to = r; moment = a.moment }) (sym x.receipts_to ∙ y.receipts_to)
     ∙ ap (λ (m : Option ℕ). record b { moment = m }) (told_one _ a.moment b.moment x.seconds.0 y.seconds.0)
 
 -- the state of a letter

@@ -78,6 +78,10 @@ folder = nonempty (default (codes ".") (option (codes "out")))
 abbrev pub control : Rule
 control = nonempty (option (codes "control"))
 
+-- where receipts may be sent
+abbrev pub receipts_to : Rule
+receipts_to = nonempty (option (codes "receipts-to"))
+
 -- how many connections are served
 abbrev pub count_option : Rule
 count_option = number 1 1000000 (must_be_there (option (codes "count")))
@@ -116,7 +120,7 @@ abbrev pub serve_command : Shape
 serve_command = command (codes "serve") (must_be_there (option (codes "listen")) ∷ count_option ∷ timeout ∷ idle (codes "2") ∷ [])
 
 abbrev pub run_command : Shape
-run_command = command (codes "run") (must_be_there (option (codes "listen")) ∷ control ∷ timeout ∷ idle (codes "75") ∷ [])
+run_command = command (codes "run") (must_be_there (option (codes "listen")) ∷ control ∷ timeout ∷ idle (codes "75") ∷ receipts_to ∷ [])
 
 abbrev pub commands : List Shape
 commands =

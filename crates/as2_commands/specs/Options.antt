@@ -120,12 +120,13 @@ pub record AsksServe (values own : List Row) (s : GivenServing) : Type 0 where
   pub idle : NumberFrom 1 3600 (one_of (codes "idle") own) s.waits.idle
   pub seconds : TellsMoment (one_of (codes "moment") values) s.moment
 
--- the address, the path, the waits, and the moment where the values before the command give it
+-- the address, the path, the waits, where receipts may be sent, and the moment where the values before the command give it
 pub record AsksOperate (values own : List Row) (s : GivenOperating) : Type 0 where
   pub listens : first_of (codes "listen") own ≡ Some s.address
   pub control : first_of (codes "control") own ≡ s.control
   pub wait : IsTimeout own s.waits.seconds
   pub idle : NumberFrom 1 3600 (one_of (codes "idle") own) s.waits.idle
+  pub receipts_to : first_of (codes "receipts-to") own ≡ s.receipts_to
   pub seconds : TellsMoment (one_of (codes "moment") values) s.moment
 
 -- a flag is there

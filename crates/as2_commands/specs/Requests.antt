@@ -16,12 +16,13 @@ pub record GivenServing : Type 0 where
   pub waits : ServingWaits
   pub moment : Option ℕ
 
--- a station that runs: the address that is listened on, the path at which it can be asked, the waits for a peer, and the moment of all that
--- it answers, if these are given
+-- a station that runs: the address that is listened on, the path at which it can be asked, the waits for a peer, where receipts may be sent,
+-- and the moment of all that it answers, if these are given
 pub record GivenOperating : Type 0 where
   pub address : List ℕ
   pub control : Option (List ℕ)
   pub waits : ServingWaits
+  pub receipts_to : Option (List ℕ)
   pub moment : Option ℕ
 
 -- which document is to be proved: its box and its number; and the folder that the files are made in

@@ -1,7 +1,7 @@
 //! Options and values of commands.
 ghost use Rattle.std.specs.Prelude.{◌≡◌, ◌<◌, ◌≤◌, ◌^◌, codes, false};
 ghost use Rattle.clap.specs.Words.{rule_of};
-ghost use Rattle.as2_commands.specs.CommandLine.{control, count_option, default, entry, first, flag, folder, format, idle, moment, nonempty, number, option, must_be_there, store, store_limit, timeout, positional};
+ghost use Rattle.as2_commands.specs.CommandLine.{control, count_option, default, entry, first, flag, folder, format, idle, moment, nonempty, number, option, must_be_there, receipts_to, store, store_limit, timeout, positional};
 
 use as2_exchange::END_OF_NUMBERS;
 use as2_text::LAST_MOMENT;
@@ -57,6 +57,8 @@ pub(crate) const LISTEN: &str = "listen";
 
 /// Where a station that runs can be asked.
 pub(crate) const CONTROL: &str = "control";
+
+pub(crate) const RECEIPTS_TO: &str = "receipts-to";
 
 /// How many connections are served.
 pub(crate) const COUNT: &str = "count";
@@ -227,6 +229,14 @@ pub(crate) fn control<'a>(alloc: Global) -> Arg<'a>
     let help =
         "The socket at which the station can be asked [default: the store's path and '.ctl']";
     nonempty(option(alloc, CONTROL, "PATH", help))
+}
+
+pub(crate) fn receipts_to<'a>(alloc: Global) -> Arg<'a>
+    ensures rule { rule_of result ≡ receipts_to }
+    ensures local { result.global ≡ false }
+{
+    let help = "Where receipts may be sent by requests of their own [default: anywhere]";
+    nonempty(option(alloc, RECEIPTS_TO, "HOST[:PORT],..", help))
 }
 
 pub(crate) fn format<'a>(alloc: Global) -> Arg<'a>

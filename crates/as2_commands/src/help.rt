@@ -238,9 +238,10 @@ Example:
 
 pub(crate) const RUN: &str = "\
 Writes 'listening: ADDRESS' on standard error once it does; the line tells the port that the system
-chose. Up to 1000 connections are answered side by side, as 'post' answers its input, and a line is said
-on standard error for each thing that happens. It runs until 'stop', or until it is killed: what it had
-answered is recorded by then.
+chose. Up to 1000 connections are answered side by side, as 'post' answers its input. What is due is sent
+as soon as it is, as 'send' sends it, by up to 64 requests side by side. A line is said on standard error
+for each thing that happens. It runs until 'stop', or until it is killed: what it had answered is
+recorded by then.
 
 While it runs, 'submit', 'list', 'show', 'outstanding', 'fetch', 'tick', 'verify', 'evidence' and
 'resend' over the same store are done by it, and print what they print without it. So is 'stop', which
@@ -250,15 +251,22 @@ lead from the one to the other: beside the socket to the store's file, with '.st
 command with other agreements than the station's is 'refused: OtherAgreements'; 'post', 'send', 'serve',
 'run' and 'migrate' are 'refused: StationRuns'.
 
-The SECONDS of '--timeout' are the longest wait for a peer's next byte within a request, and for a
-write; a request as a whole has ten times that. Behind a reply another request is waited for as long as
+The SECONDS of '--timeout' are the longest wait for a peer's next byte within a request or an answer, and
+for a write; as a whole it has ten times that. Behind a reply another request is waited for as long as
 '--idle' says.
+
+Who posts a document may ask for its receipt at any address. With '--receipts-to' such receipts are sent
+to these hosts alone, to any of their ports where none is named; for another address the try has failed
+before it connects, and a line says so.
 
 An address that can't be listened on, and a socket that can't be made, are 'refused: CannotListen' on
 standard error, exit status 1. A store that can't be opened is 'store: NAME', exit status 3.
 
 Example:
-  as2desk --agreements agreements.toml --store station.db run --listen 127.0.0.1:8080";
+  as2desk --agreements agreements.toml --store station.db run --listen 127.0.0.1:8080
+
+Receipts go to one host alone:
+  as2desk --agreements agreements.toml --store station.db run --listen 127.0.0.1:8080 --receipts-to as2.buyer.example";
 
 pub(crate) const STOP: &str = "\
 The station that runs over the store takes no more connections, lets what is under way end for up to 10

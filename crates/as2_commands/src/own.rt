@@ -5,7 +5,7 @@ ghost use Rattle.as2_commands.specs.CommandLine.{command, entry, evidence_comman
 
 use crate::args::{
     FILE, FROM, KIND, LISTEN, LOG, RECEIVED, STATE, TO, control, count, entry, flag, folder,
-    format, idle, option, required_option, timeout, value,
+    format, idle, option, receipts_to, required_option, timeout, value,
 };
 use crate::building::{Made, and};
 use crate::help;
@@ -193,7 +193,7 @@ pub(crate) fn run<'a>(alloc: Global) -> Made<'a>
     let run = named(alloc, RUN, about, help::RUN);
     let run = and(run, required_option(alloc, LISTEN, "ADDRESS", help));
     let run = and(and(run, control(alloc)), timeout(alloc));
-    and(run, idle(alloc, "75"))
+    and(and(run, idle(alloc, "75")), receipts_to(alloc))
 }
 
 pub(crate) fn stop<'a>(alloc: Global) -> Made<'a>

@@ -16,8 +16,8 @@ ghost use Rattle.as2_commands.specs.declared.tasks.Task.{Task as TheTask};
 
 use crate::args::{
     AGREEMENTS, CONTROL, COUNT, FILE, FIRST, FORMAT, FROM, IDLE, KIND, LEAST_LIMIT, LEAST_WAIT,
-    LISTEN, LOG, MOMENT, MOST_CONNECTIONS, MOST_LIMIT, MOST_WAIT, NUMBER, OUT, RECEIVED, STATE,
-    STORE, STORE_LIMIT, TIMEOUT, TO,
+    LISTEN, LOG, MOMENT, MOST_CONNECTIONS, MOST_LIMIT, MOST_WAIT, NUMBER, OUT, RECEIPTS_TO,
+    RECEIVED, STATE, STORE, STORE_LIMIT, TIMEOUT, TO,
 };
 use crate::fault::OptionFault;
 use crate::first_number::FirstNumber;
@@ -339,6 +339,7 @@ fn operating<'a>(
         address,
         control: text(own, CONTROL),
         waits: ServingWaits { seconds, idle },
+        receipts_to: text(own, RECEIPTS_TO),
         moment: given,
     })
 }

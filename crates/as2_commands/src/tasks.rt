@@ -81,6 +81,8 @@ pub struct Operating<'a> {
     pub control: Option<&'a str>,
     /// How long a peer is waited for.
     pub waits: ServingWaits,
+    /// The hosts that receipts may be sent to, with or without a port, and commas between them; anywhere where it isn't given.
+    pub receipts_to: Option<&'a str>,
     /// The moment of all that it answers, where `--moment` gives it.
     pub moment: Option<Moment>,
 }
@@ -95,6 +97,7 @@ impl<'a> Model for Operating<'a> {
       address = s.address.now;
       control = option_map (λ path. path.now) s.control;
       waits = s.waits;
+      receipts_to = option_map (λ hosts. hosts.now) s.receipts_to;
       moment = s.moment;
     } };
 }

@@ -54,7 +54,7 @@ fn is_success(status: u16) -> bool
 }
 
 /// Why a try failed that got this.
-pub(crate) fn why_of(got: &TryAnswer, fault: LinkFault) -> Why
+pub fn why_of(got: &TryAnswer, fault: LinkFault) -> Why
     ensures { result ≡ why_of got.now fault }
 {
     match got {
@@ -135,7 +135,7 @@ fn write_hint<E: Write>(what: Next, why: Why, hints: &mut E) -> io::Result<()>
 }
 
 /// Says why a try failed, where it did, and whether that could be said.
-pub(crate) fn is_hinted<E: Write>(what: Next, became: Became, why: Why, hints: &mut E) -> bool
+pub fn is_hinted<E: Write>(what: Next, became: Became, why: Why, hints: &mut E) -> bool
     ensures { result ≡ true → Appends (E.contents hints.old) (E.contents hints.new) (hint_if what became why) }
 {
     match became {

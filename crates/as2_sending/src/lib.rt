@@ -9,7 +9,8 @@ mod sent;
 mod telling;
 mod turns;
 
-pub use hints::Why;
+pub use hints::{Why, is_hinted, why_of};
 pub use links::{LinkFault, Links};
 pub use sending::send;
 pub use sent::{Sending, Sent};
+pub use telling::line;
