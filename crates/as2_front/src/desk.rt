@@ -2,17 +2,20 @@
 ghost use Rattle.std.specs.Prelude.{◌≡◌};
 ghost use Rattle.as2_exchange.specs.declared.answer.Answer.TheVariants.{Ticked};
 ghost use Rattle.as2_exchange.specs.declared.event.Event.TheVariants.{Tick};
+ghost use Rattle.as2_records.specs.Calls.{Reads};
+ghost use Rattle.as2_station.specs.Due.{destination, next_behind};
+ghost use Rattle.as2_station.specs.Said.{begin_event, outcome_event, said_to_begin, said_to_outcome};
 ghost use Rattle.as2_station.specs.Steps.{TakesEvent};
 ghost use Rattle.as2_front.specs.Answers.{GivesReply, conduct_by};
 
 use crate::log::{Log, LogLine};
 use as2_agreement::Agreements;
-use as2_exchange::{HttpAnswer, StoreFault};
+use as2_exchange::{Bytes, HttpAnswer, Next, StoreFault, TryAnswer};
 use as2_http::{Journal, identifier_told, name_told, respond};
 use as2_hub::{Desk, Replied, Reply};
 use as2_messages::{Form, Method, Refused, Request, Target, refusal, write_reply};
 use as2_records::Records;
-use as2_station::Station;
+use as2_station::{Begun, Ended, Station};
 use as2_text::Moment;
 use std::alloc::Global;
 
@@ -94,6 +97,53 @@ impl<'a, K: Records> StationDesk<'a, K> {
     {
         self.set_moment(moment);
         self.station.tick(self.agreements, moment)
+    }
+
+    /// What is to be sent next at this moment, behind what was looked at last; as the station answers it.
+    pub fn next_behind(
+        &mut self,
+        moment: Moment,
+        last: Option<Next>,
+    ) -> Result<Option<Next>, StoreFault>
+        ensures same { self.new ≡ record self.old { station = self.new.station } }
+        ensures next { Reads (λ s found. found ≡ next_behind s moment last) (K.shows self.old.station)
+            (K.shows self.new.station) result }
+    {
+        self.station.next_behind(moment, last)
+    }
+
+    /// The address that a request for it goes to, if there is one; as the station answers it.
+    pub fn destination(&mut self, what: Next) -> Result<Option<Bytes>, StoreFault>
+        ensures same { self.new ≡ record self.old { station = self.new.station } }
+        ensures destination { Reads (λ s found. found ≡ destination self.old.agreements.now s what)
+            (K.shows self.old.station) (K.shows self.new.station) result }
+    {
+        self.station.destination(self.alloc, self.agreements, what)
+    }
+
+    /// Begins a try of a receipt or a document at this moment: it is committed before its request is handed out. A fault of the records may
+    /// come in place of any other answer, and nothing is changed then.
+    pub fn begin(&mut self, what: Next, moment: Moment) -> Result<Begun, StoreFault>
+        ensures same { self.new ≡ record self.old { station = self.new.station } }
+        ensures taken { TakesEvent self.old.agreements.now (begin_event what moment) said_to_begin
+            (K.shows self.old.station) (K.shows self.new.station) result }
+    {
+        self.station.begin(self.alloc, self.agreements, what, moment)
+    }
+
+    /// Takes the outcome of a try at this moment. A fault of the records may come in place of any other answer, and nothing is changed then.
+    pub fn close(
+        &mut self,
+        what: Next,
+        got: TryAnswer,
+        moment: Moment,
+    ) -> Result<Ended, StoreFault>
+        ensures same { self.new ≡ record self.old { station = self.new.station } }
+        ensures taken { TakesEvent self.old.agreements.now (outcome_event what got moment) said_to_outcome
+            (K.shows self.old.station) (K.shows self.new.station) result }
+    {
+        self.station
+            .close(self.alloc, self.agreements, what, got, moment)
     }
 
     /// Gives the station back.

@@ -1,5 +1,5 @@
 -- What happens to a live station, one behind the other: nothing is something, and what happens behind something is, with it, something.
-use Rattle.std.proofs.Common.{◌≡◌, ◌∙◌, ℕ, List, [], ◌∷◌, ◌++◌, Result, Ok, Err, refl, sym, ap, subst, append_assoc, append-nil}
+use Rattle.std.proofs.Common.{◌≡◌, ◌∙◌, ℕ, Bool, true, false, List, [], ◌∷◌, ◌++◌, Result, Ok, Err, refl, sym, ap, subst, append_assoc, append-nil}
 use Rattle.as2_agreement.specs.Agreements.{AgreedValues}
 use Rattle.as2_exchange.specs.Run.{AnEvent, EventResult, Run, Trace}
 use Rattle.as2_exchange.specs.State.{State}
@@ -13,11 +13,17 @@ use Rattle.as2_hub.specs.Happenings.{Happenings, Opens, Comes, Keeps, Loses, Goe
 use Rattle.as2_hub.specs.Places.{StandAfter, places}
 use Rattle.as2_hub.specs.Rounds.{AnswerWhatWaited}
 use Rattle.as2_hub.specs.declared.hub.Hub.{Hub}
+use Rattle.as2_exchange.specs.declared.event.TryAnswer.{TryAnswer}
+use Rattle.as2_exchange.specs.declared.next.Next.{Next}
+use Rattle.as2_links.specs.Happenings.{Begins, Cuts, Ends, Hears, LinkHappenings, Sends, if_so}
+use Rattle.as2_links.specs.Links.{LinksStand}
+use Rattle.as2_links.specs.declared.table.LinkTable.{LinkTable}
 use Rattle.as2_records.specs.Standing.{Medium, Standing}
+use Rattle.as2_station.specs.Said.{begin_event, outcome_event}
 use Rattle.as2_station.proofs.ByHistory.{ends_by_history, run_then}
 use Rattle.as2_station.specs.Steps.{TakesEvent}
 use Rattle.as2_station.specs.Theorem.{said_as}
-use Rattle.as2_live.specs.Living.{AtAPlace, Answers, AnswersPlaces, Commanded, LeadsByOne, LeadsTo, LiveHappening, LiveHistory, LivesBy, LivesFrom, LivesOn, Ticks, at_places}
+use Rattle.as2_live.specs.Living.{AtALink, AtAPlace, Answers, AnswersPlaces, BeginsTry, Commanded, EndsTry, LeadsByOne, LeadsTo, LiveHistory, LivesBy, LivesFrom, LivesOn, Ticks, at_links, at_places, opened_for}
 use Rattle.as2_live.specs.declared.live.Live.{Live}
 
 at_places_of_both : (late early : LiveHistory) → at_places (late ++ early) ≡ at_places late ++ at_places early
@@ -26,6 +32,21 @@ at_places_of_both (AtAPlace what ∷ late) early = ap (λ (h : Happenings). what
 at_places_of_both (Answers moment round ∷ late) early = ap (λ (h : Happenings). Keeps round ∷ h) (at_places_of_both late early)
 at_places_of_both (Ticks moment said ∷ late) early = at_places_of_both late early
 at_places_of_both (Commanded words ∷ late) early = at_places_of_both late early
+at_places_of_both (AtALink what ∷ late) early = at_places_of_both late early
+at_places_of_both (BeginsTry l what moment said ∷ late) early = at_places_of_both late early
+at_places_of_both (EndsTry l what got moment said ∷ late) early = at_places_of_both late early
+
+at_links_of_both : (late early : LiveHistory) → at_links (late ++ early) ≡ at_links late ++ at_links early
+at_links_of_both [] early = refl
+at_links_of_both (AtAPlace what ∷ late) early = at_links_of_both late early
+at_links_of_both (Answers moment round ∷ late) early = at_links_of_both late early
+at_links_of_both (Ticks moment said ∷ late) early = at_links_of_both late early
+at_links_of_both (Commanded words ∷ late) early = at_links_of_both late early
+at_links_of_both (AtALink what ∷ late) early = ap (λ (h : LinkHappenings). what ∷ h) (at_links_of_both late early)
+at_links_of_both (BeginsTry l what moment said ∷ late) early =
+    ap (λ (h : LinkHappenings). opened_for l what said ++ h) (at_links_of_both late early)
+    ∙ sym (append_assoc (opened_for l what said) (at_links late) (at_links early))
+at_links_of_both (EndsTry l what got moment said ∷ late) early = ap (λ (h : LinkHappenings). Ends l what got ∷ h) (at_links_of_both late early)
 
 module _ (A : AgreedValues) (s mid : State) (early : LiveHistory) (before : Trace) (first : LeadsTo A s early before mid) where
   leads_then : (late : LiveHistory) (trace : Trace) (t : State) → LeadsTo A mid late trace t → LeadsTo A s (late ++ early) (before ++ trace) t
@@ -62,6 +83,25 @@ module _ (A : AgreedValues) (s mid : State) (early : LiveHistory) (before : Trac
     run,
     ap (λ (l : Trace). before ++ l) all ∙ sym (append_assoc before between events),
   )
+  leads_then (AtALink (Begins l what job) ∷ late) trace t it = absurd it
+  leads_then (AtALink (Sends l piece) ∷ late) trace t it = leads_then late trace t it
+  leads_then (AtALink (Hears l piece) ∷ late) trace t it = leads_then late trace t it
+  leads_then (AtALink (Cuts l) ∷ late) trace t it = leads_then late trace t it
+  leads_then (AtALink (Ends l what got) ∷ late) trace t it = absurd it
+  leads_then (BeginsTry l what moment said ∷ late) trace t (last, between, leads, run, all) = (
+    last,
+    before ++ between,
+    leads_then late between last leads,
+    run,
+    ap (λ (l : Trace). before ++ l) all ∙ sym (append_assoc before between (AnEvent (begin_event what moment) said ∷ [])),
+  )
+  leads_then (EndsTry l what got moment said ∷ late) trace t (last, between, leads, run, all) = (
+    last,
+    before ++ between,
+    leads_then late between last leads,
+    run,
+    ap (λ (l : Trace). before ++ l) all ∙ sym (append_assoc before between (AnEvent (outcome_event what got moment) said ∷ [])),
+  )
 
 module _ {M : Medium} {K : Type 0} (shows : K → Standing M) where
   pub lives_none : (a b : Live K) → b ≡ a → LivesBy shows a [] b
@@ -69,6 +109,7 @@ module _ {M : Medium} {K : Type 0} (shows : K → Standing M) where
     stands = λ h stand. stand;
     answer = λ h stand waited. waited;
     bounded = record { bounds = refl; within = λ within. within };
+    linked = λ h stand. stand;
     agreed = refl;
     clean = λ clean. clean;
     lives = λ clean s rests. record {
@@ -105,6 +146,8 @@ module _ {M : Medium} {K : Type 0} (shows : K → Standing M) where
       let both = at_places_of_both late early in
       let along : (h : Happenings) → at_places (late ++ early) ++ h ≡ at_places late ++ (at_places early ++ h)
       = λ h. ap (λ (l : Happenings). l ++ h) both ∙ append_assoc (at_places late) (at_places early) h in
+      let along_links : (h : LinkHappenings) → at_links (late ++ early) ++ h ≡ at_links late ++ (at_links early ++ h)
+      = λ h. ap (λ (l : LinkHappenings). l ++ h) (at_links_of_both late early) ∙ append_assoc (at_links late) (at_links early) h in
       record {
         stands = λ h stand. subst (λ (l : Happenings). StandAfter (places c.hub) l) (sym (along h))
             (second.stands (at_places early ++ h) (first.stands h stand));
@@ -114,6 +157,8 @@ module _ {M : Medium} {K : Type 0} (shows : K → Standing M) where
           bounds = second.bounded.bounds ∙ first.bounded.bounds;
           within = λ within. second.bounded.within (first.bounded.within within);
         };
+        linked = λ h stand. subst (λ (l : LinkHappenings). LinksStand c.links l) (sym (along_links h))
+            (second.linked (at_links early ++ h) (first.linked h stand));
         agreed = second.agreed ∙ first.agreed;
         clean = λ clean. first.clean (second.clean clean);
         lives = λ clean s rests.
@@ -128,31 +173,93 @@ module _ {M : Medium} {K : Type 0} (shows : K → Standing M) where
   pub on_then : (a b c : Live K) → LivesOn shows a b → LivesOn shows b c → LivesOn shows a c
   on_then a b c (early, first) (late, second) = (late ++ early, lives_then a b c early late first second)
 
+  pub on_one : (a b : Live K) (history : LiveHistory) → LivesBy shows a history b → LivesOn shows a b
+  on_one a b history it = (history, it)
+
   pub on_answer : (a b : Live K) (moment : ℕ) (named : List ℕ) → AnswersPlaces shows a moment named b → LivesOn shows a b
   on_answer a b moment named (round, turns, it) = (Answers moment round ∷ [], it)
 
 -- What happens at no place: a moment that has come, a command.
 module _ {M : Medium} {K : Type 0} (shows : K → Standing M) (old new : Live K) (hub : new.hub ≡ old.hub)
     (agreed : new.desk.agreements.now ≡ old.desk.agreements.now) (clean : (shows new.desk.station).IsClean → (shows old.desk.station).IsClean) where
-  off_places : (what : LiveHappening) → at_places (what ∷ []) ≡ []
-      → ((shows new.desk.station).IsClean → (s : State) → (shows old.desk.station).Rests s → LivesFrom shows new old.desk.agreements.now (what ∷ []) s)
-      → LivesBy shows old (what ∷ []) new
-  off_places what none lives = record {
+  pub off_places : (what : LiveHistory) → at_places what ≡ []
+      → ((h : LinkHappenings) → LinksStand old.links h → LinksStand new.links (at_links what ++ h))
+      → ((shows new.desk.station).IsClean → (s : State) → (shows old.desk.station).Rests s → LivesFrom shows new old.desk.agreements.now what s)
+      → LivesBy shows old what new
+  off_places what none linked lives = record {
     stands = λ h stand. subst (λ (p : Happenings). StandAfter (places new.hub) (p ++ h)) (sym none)
         (subst (λ (g : Hub). StandAfter (places g) h) (sym hub) stand);
     answer = λ h stand waited. subst (λ (p : Happenings). AnswerWhatWaited (p ++ h)) (sym none) waited;
     bounded = subst (λ (g : Hub). KeepsBounds old.hub g) (sym hub) (record { bounds = refl; within = λ within. within });
+    linked = linked;
     agreed = agreed;
     clean = clean;
     lives = lives;
   }
 
+  same_links : new.links ≡ old.links → (h : LinkHappenings) → LinksStand old.links h → LinksStand new.links h
+  same_links links h stand = subst (λ (t : LinkTable). LinksStand t h) (sym links) stand
+
+  -- nothing but a look at the records
+  pub looked : ((shows new.desk.station).IsClean → (s : State) → (shows old.desk.station).Rests s → (shows new.desk.station).Rests s)
+      → new.links ≡ old.links → LivesBy shows old [] new
+  looked same links = off_places [] refl (same_links links) (λ clean s rests.
+      let A = old.desk.agreements.now in
+      record {
+        trace = [];
+        left = s;
+        rests = same clean s rests;
+        leads = (refl, refl);
+        run = refl;
+        by_history = ends_by_history A s [] s refl;
+      })
+
+  -- a try that begins
+  pub began : (l : ℕ) (what : Next) (moment : ℕ) (said : EventResult)
+      → ((shows new.desk.station).IsClean → (s : State) → (shows old.desk.station).Rests s
+      → (t : State) × (shows new.desk.station).Rests t × Run old.desk.agreements.now s (AnEvent (begin_event what moment) said ∷ []) t)
+      → ((h : LinkHappenings) → LinksStand old.links h → LinksStand new.links (opened_for l what said ++ h))
+      → LivesBy shows old (BeginsTry l what moment said ∷ []) new
+  began l what moment said led linked = off_places (BeginsTry l what moment said ∷ []) refl
+      (λ h stand. subst (λ (g : LinkHappenings). LinksStand new.links (g ++ h)) (sym (append-nil (opened_for l what said))) (linked h stand))
+      (λ clean s rests.
+      let it = led clean s rests in
+      let A = old.desk.agreements.now in
+      let trace = AnEvent (begin_event what moment) said ∷ [] in
+      record {
+        trace = trace;
+        left = it.0;
+        rests = it.1;
+        leads = (s, [], (refl, refl), it.2, refl);
+        run = it.2;
+        by_history = ends_by_history A s trace it.0 it.2;
+      })
+
+  -- and its outcome
+  pub ended : (l : ℕ) (what : Next) (got : TryAnswer) (moment : ℕ) (said : EventResult)
+      → ((shows new.desk.station).IsClean → (s : State) → (shows old.desk.station).Rests s
+      → (t : State) × (shows new.desk.station).Rests t × Run old.desk.agreements.now s (AnEvent (outcome_event what got moment) said ∷ []) t)
+      → ((h : LinkHappenings) → LinksStand old.links h → LinksStand new.links (Ends l what got ∷ h))
+      → LivesBy shows old (EndsTry l what got moment said ∷ []) new
+  ended l what got moment said led linked = off_places (EndsTry l what got moment said ∷ []) refl linked (λ clean s rests.
+      let it = led clean s rests in
+      let A = old.desk.agreements.now in
+      let trace = AnEvent (outcome_event what got moment) said ∷ [] in
+      record {
+        trace = trace;
+        left = it.0;
+        rests = it.1;
+        leads = (s, [], (refl, refl), it.2, refl);
+        run = it.2;
+        by_history = ends_by_history A s trace it.0 it.2;
+      })
+
   -- a command of these words, which led on by one event or none
   pub commanded : (words : List (List ℕ))
       → ((shows new.desk.station).IsClean → (s : State) → (shows old.desk.station).Rests s
       → LeadsByOne old.desk.agreements.now s (λ t. (shows new.desk.station).Rests t))
-      → LivesBy shows old (Commanded words ∷ []) new
-  commanded words led = off_places (Commanded words) refl (λ clean s rests.
+      → new.links ≡ old.links → LivesBy shows old (Commanded words ∷ []) new
+  commanded words led links = off_places (Commanded words ∷ []) refl (same_links links) (λ clean s rests.
       let it = led clean s rests in
       let A = old.desk.agreements.now in
       record {
@@ -168,8 +275,8 @@ module _ {M : Medium} {K : Type 0} (shows : K → Standing M) (old new : Live K)
   pub ticked : (moment : ℕ) (said : EventResult)
       → ((shows new.desk.station).IsClean → (s : State) → (shows old.desk.station).Rests s
       → (t : State) × (shows new.desk.station).Rests t × Run old.desk.agreements.now s (AnEvent (Tick moment) said ∷ []) t)
-      → LivesBy shows old (Ticks moment said ∷ []) new
-  ticked moment said led = off_places (Ticks moment said) refl (λ clean s rests.
+      → new.links ≡ old.links → LivesBy shows old (Ticks moment said ∷ []) new
+  ticked moment said led links = off_places (Ticks moment said ∷ []) refl (same_links links) (λ clean s rests.
       let it = led clean s rests in
       let A = old.desk.agreements.now in
       let trace = AnEvent (Tick moment) said ∷ [] in
@@ -181,6 +288,42 @@ module _ {M : Medium} {K : Type 0} (shows : K → Standing M) (old new : Live K)
         run = it.2;
         by_history = ends_by_history A s trace it.0 it.2;
       })
+
+-- What happens at a link alone.
+module _ {M : Medium} {K : Type 0} (shows : K → Standing M) (old : Live K) (table : LinkTable) where
+  abbrev with_links : Live K
+  with_links = record old { links = table }
+
+  goes_on : (history : LiveHistory) → at_places history ≡ [] → ((A : AgreedValues) (s : State) → LeadsTo A s history [] s)
+      → ((h : LinkHappenings) → LinksStand old.links h → LinksStand table (at_links history ++ h)) → LivesBy shows old history with_links
+  goes_on history none leads linked = off_places shows old with_links refl refl (λ clean. clean) history none linked (λ clean s rests.
+      let A = old.desk.agreements.now in
+      record {
+        trace = [];
+        left = s;
+        rests = rests;
+        leads = leads A s;
+        run = refl;
+        by_history = ends_by_history A s [] s refl;
+      })
+
+  pub unlinked : ((h : LinkHappenings) → LinksStand old.links h → LinksStand table h) → LivesBy shows old [] with_links
+  unlinked linked = goes_on [] refl (λ A s. (refl, refl)) linked
+
+  pub link_sent : (l : ℕ) (piece : List ℕ) (is : Bool)
+      → ((h : LinkHappenings) → LinksStand old.links h → LinksStand table (if_so is (Sends l piece) ++ h)) → LivesOn shows old with_links
+  link_sent l piece true linked = (AtALink (Sends l piece) ∷ [], goes_on (AtALink (Sends l piece) ∷ []) refl (λ A s. (refl, refl)) linked)
+  link_sent l piece false linked = ([], unlinked linked)
+
+  pub link_heard : (l : ℕ) (piece : List ℕ) (is : Bool)
+      → ((h : LinkHappenings) → LinksStand old.links h → LinksStand table (if_so is (Hears l piece) ++ h)) → LivesOn shows old with_links
+  link_heard l piece true linked = (AtALink (Hears l piece) ∷ [], goes_on (AtALink (Hears l piece) ∷ []) refl (λ A s. (refl, refl)) linked)
+  link_heard l piece false linked = ([], unlinked linked)
+
+  pub link_cut : (l : ℕ) (is : Bool) → ((h : LinkHappenings) → LinksStand old.links h → LinksStand table (if_so is (Cuts l) ++ h))
+      → LivesOn shows old with_links
+  link_cut l true linked = (AtALink (Cuts l) ∷ [], goes_on (AtALink (Cuts l) ∷ []) refl (λ A s. (refl, refl)) linked)
+  link_cut l false linked = ([], unlinked linked)
 
 -- an event that a call took is a step of the machine, or a fault that changed nothing
 pub took : {M : Medium} {X : Type 0} (A : AgreedValues) (e : Event) (tell : X → Answer) (old new : Standing M) (r : Result X StoreFault)

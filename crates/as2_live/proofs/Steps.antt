@@ -15,13 +15,15 @@ use Rattle.as2_front.specs.Answers.{conduct_by}
 use Rattle.as2_front.specs.Serving.{AnswersCalls}
 use Rattle.as2_front.proofs.Leading.{leads_on, serves_from}
 use Rattle.as2_front.specs.declared.desk.StationDesk.{StationDesk}
+use Rattle.as2_links.specs.Links.{LinksStand}
+use Rattle.as2_links.specs.declared.table.LinkTable.{LinkTable}
 use Rattle.as2_records.specs.Standing.{Medium, Standing}
 use Rattle.as2_station.proofs.ByHistory.{ends_by_history}
 use Rattle.as2_live.specs.Living.{AtAPlace, AnswersPlaces, LeadsTo, LivesBy, all_at_places}
 use Rattle.as2_live.specs.declared.live.Live.{Live}
 use Rattle.as2_live.proofs.Going.{lives_none}
 
-module _ {M : Medium} {K : Type 0} (shows : K → Standing M) (old new : Live K) (same : new.desk ≡ old.desk) where
+module _ {M : Medium} {K : Type 0} (shows : K → Standing M) (old new : Live K) (same : new.desk ≡ old.desk) (links : new.links ≡ old.links) where
   -- it happened at a place, and answers nothing
   happened : (what : Happening) → ((h : Happenings) → AnswerWhatWaited h → AnswerWhatWaited (what ∷ h))
       → ((A : AgreedValues) (s : State) → LeadsTo A s (AtAPlace what ∷ []) [] s)
@@ -31,6 +33,7 @@ module _ {M : Medium} {K : Type 0} (shows : K → Standing M) (old new : Live K)
     stands = stands;
     answer = λ h stand waited. waits h waited;
     bounded = bounded;
+    linked = λ h stand. subst (λ (t : LinkTable). LinksStand t h) (sym links) stand;
     agreed = ap (λ (d : StationDesk K). d.agreements.now) same;
     clean = λ clean. subst (λ (d : StationDesk K). (shows d.station).IsClean) same clean;
     lives = λ clean s rests. record {
@@ -45,7 +48,8 @@ module _ {M : Medium} {K : Type 0} (shows : K → Standing M) (old new : Live K)
 
   nothing : new.hub ≡ old.hub → LivesBy shows old [] new
   nothing hub = lives_none shows old new
-      (ap (λ (g : Hub). record new { hub = g }) hub ∙ ap (λ (d : StationDesk K). record old { desk = d }) same)
+      (ap (λ (g : Hub). record new { hub = g }) hub ∙ ap (λ (d : StationDesk K). record new { hub = old.hub; desk = d }) same
+      ∙ ap (λ (t : LinkTable). record old { links = t }) links)
 
   pub opened : (at : ℕ) (is : Bool)
       → (IsTrue is → (h : Happenings) → StandAfter (places old.hub) h → StandAfter (places new.hub) (Opens at ∷ h))
@@ -75,7 +79,7 @@ module _ {M : Medium} {K : Type 0} (shows : K → Standing M) (old new : Live K)
   went at (suc n) (b ∷ piece) within stands bounded none =
       happened (Goes at (b ∷ take n piece)) (λ h waited. waited) (λ A s. (refl, refl)) (stands (zero-lt-suc n)) bounded
 
-module _ {M : Medium} {K : Type 0} (shows : K → Standing M) (old new : Live K) (moment : ℕ) where
+module _ {M : Medium} {K : Type 0} (shows : K → Standing M) (old new : Live K) (moment : ℕ) (links : new.links ≡ old.links) where
   abbrev at_moment : StationDesk K
   at_moment = record old.desk { moment = moment }
 
@@ -92,6 +96,7 @@ module _ {M : Medium} {K : Type 0} (shows : K → Standing M) (old new : Live K)
           stands = λ h stand. it.stands h stand;
           answer = λ h stand waited. (it.answer h stand, waited);
           bounded = bounded;
+          linked = λ h stand. subst (λ (t : LinkTable). LinksStand t h) (sym links) stand;
           agreed = ap (λ (d : StationDesk K). d.agreements.now) leads.same;
           clean = λ clean. leads.clean clean;
           lives = λ clean s rests.

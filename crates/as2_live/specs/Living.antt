@@ -1,9 +1,14 @@
 -- What happens to a live station, and where it leads.
-use Rattle.std.specs.Prelude.{◌≡◌, ℕ, List, [], ◌∷◌, ◌++◌, map, ⊤}
+use Rattle.std.specs.Prelude.{◌≡◌, ℕ, List, [], ◌∷◌, ◌++◌, map, Option, Some, None, ⊤}
 use Rattle.as2_agreement.specs.Agreements.{AgreedValues}
-use Rattle.as2_exchange.specs.Run.{AnEvent, EventResult, Run, Trace}
+use Rattle.as2_exchange.specs.Run as run
+use Rattle.as2_exchange.specs.Run.{AnEvent, Answered, EventResult, Run, Trace}
 use Rattle.as2_exchange.specs.State.{State}
+use Rattle.as2_exchange.specs.declared.answer.Answer.TheVariants.{Job as Handed, Refused}
+use Rattle.as2_exchange.specs.declared.answer.Job.{Job}
 use Rattle.as2_exchange.specs.declared.event.Event.TheVariants.{Tick}
+use Rattle.as2_exchange.specs.declared.event.TryAnswer.{TryAnswer}
+use Rattle.as2_exchange.specs.declared.next.Next.{Next}
 use Rattle.as2_http.specs.Streams.{RequestAndResponse, stream_events}
 use Rattle.as2_hub.specs.Bounded.{KeepsBounds}
 use Rattle.as2_hub.specs.Calls.{DeskCall}
@@ -12,9 +17,16 @@ use Rattle.as2_hub.specs.Places.{StandAfter, places}
 use Rattle.as2_hub.specs.Rounds.{AnswerWhatWaited}
 use Rattle.as2_hub.specs.Turns.{called_places, places_asked}
 use Rattle.as2_front.specs.Serving.{AnswersCalls}
+use Rattle.as2_links.specs.Happenings.{Begins, Cuts, Ends, Hears, LinkHappening, LinkHappenings, Sends}
+use Rattle.as2_links.specs.Links.{LinksStand}
 use Rattle.as2_records.specs.Standing.{Medium, Standing}
-use Rattle.as2_station.specs.Theorem.{EndsByHistory}
+use Rattle.as2_station.specs.Said.{begin_event, outcome_event, said_to_outcome}
+use Rattle.as2_station.specs.Theorem.{EndsByHistory, said_as}
 use Rattle.as2_live.specs.declared.live.Live.{Live}
+use Rattle.as2_live.specs.declared.tries.EndedTry.{EndedTry}
+use Rattle.as2_live.specs.declared.tries.TryBegun.{TryBegun}
+use Rattle.as2_live.specs.declared.tries.TryBegun.TheVariants as begun
+use Rattle.as2_live.specs.declared.tries.TryBegun.TheVariants.{Begun, NoPlace}
 
 -- ---- what happens
 
@@ -28,6 +40,12 @@ pub data LiveHappening : Type 0 where
   Ticks : (moment : ℕ) (said : EventResult) → LiveHappening
   -- a command of these words was carried out
   Commanded : (words : List (List ℕ)) → LiveHappening
+  -- bytes go over a link or come from it, or its partner sends no more
+  AtALink : (what : LinkHappening) → LiveHappening
+  -- a try begins at this moment, and that was said to it; where a request was handed out, a link is opened for it at that place
+  BeginsTry : (l : ℕ) (what : Next) (moment : ℕ) (said : EventResult) → LiveHappening
+  -- the link there is closed, what it brought is taken at this moment as the outcome of its try, and that was said to it
+  EndsTry : (l : ℕ) (what : Next) (got : TryAnswer) (moment : ℕ) (said : EventResult) → LiveHappening
 
 -- the newest first
 abbrev pub LiveHistory : Type 0
@@ -44,6 +62,29 @@ at_places (AtAPlace what ∷ h) = what ∷ at_places h
 at_places (Answers moment round ∷ h) = Keeps round ∷ at_places h
 at_places (Ticks moment said ∷ h) = at_places h
 at_places (Commanded words ∷ h) = at_places h
+at_places (AtALink what ∷ h) = at_places h
+at_places (BeginsTry l what moment said ∷ h) = at_places h
+at_places (EndsTry l what got moment said ∷ h) = at_places h
+
+-- the link that is opened for a try, where its request was handed out
+abbrev pub opened_for : ℕ → Next → EventResult → LinkHappenings
+opened_for l what (Answered (Handed job)) = Begins l what job ∷ []
+opened_for l what said = []
+
+-- what of it happens at the links
+abbrev pub at_links : LiveHistory → LinkHappenings
+at_links [] = []
+at_links (AtAPlace what ∷ h) = at_links h
+at_links (Answers moment round ∷ h) = at_links h
+at_links (Ticks moment said ∷ h) = at_links h
+at_links (Commanded words ∷ h) = at_links h
+at_links (AtALink what ∷ h) = what ∷ at_links h
+at_links (BeginsTry l what moment said ∷ h) = opened_for l what said ++ at_links h
+at_links (EndsTry l what got moment said ∷ h) = Ends l what got ∷ at_links h
+
+-- these happen at links
+abbrev pub all_at_links : LinkHappenings → LiveHistory
+all_at_links = map AtALink
 
 -- ---- where it leads
 
@@ -62,8 +103,8 @@ pub record LeadsByOne (A : AgreedValues) (s : State) (Left : State → Type 0) :
   pub run : Run A s events state
 
 -- From the state s what happened leads to t: each round answers its calls one after the other, from the state that was left before; a
--- moment that has come is an event, and a command one event or none; and nothing else changes the state. The trace has the posts and the
--- events, in the order in which they were taken.
+-- moment that has come is an event, as a try that begins and its outcome are, and a command one event or none; and nothing else changes the
+-- state. The trace has the posts and the events, in the order in which they were taken.
 abbrev pub LeadsTo : AgreedValues → State → LiveHistory → Trace → State → Type 0
 LeadsTo A s [] trace t = (trace ≡ []) × (t ≡ s)
 LeadsTo A s (AtAPlace (Opens c) ∷ h) trace t = LeadsTo A s h trace t
@@ -78,6 +119,15 @@ LeadsTo A s (Ticks moment said ∷ h) trace t = (mid : State) × (before : Trace
     × Run A mid (AnEvent (Tick moment) said ∷ []) t × (trace ≡ before ++ AnEvent (Tick moment) said ∷ [])
 LeadsTo A s (Commanded words ∷ h) trace t = (mid : State) × (before events : Trace) × LeadsTo A s h before mid
     × IsOneAtMost events × Run A mid events t × (trace ≡ before ++ events)
+LeadsTo A s (AtALink (Begins l what job) ∷ h) trace t = ⊥
+LeadsTo A s (AtALink (Sends l piece) ∷ h) trace t = LeadsTo A s h trace t
+LeadsTo A s (AtALink (Hears l piece) ∷ h) trace t = LeadsTo A s h trace t
+LeadsTo A s (AtALink (Cuts l) ∷ h) trace t = LeadsTo A s h trace t
+LeadsTo A s (AtALink (Ends l what got) ∷ h) trace t = ⊥
+LeadsTo A s (BeginsTry l what moment said ∷ h) trace t = (mid : State) × (before : Trace) × LeadsTo A s h before mid
+    × Run A mid (AnEvent (begin_event what moment) said ∷ []) t × (trace ≡ before ++ AnEvent (begin_event what moment) said ∷ [])
+LeadsTo A s (EndsTry l what got moment said ∷ h) trace t = (mid : State) × (before : Trace) × LeadsTo A s h before mid
+    × Run A mid (AnEvent (outcome_event what got moment) said ∷ []) t × (trace ≡ before ++ AnEvent (outcome_event what got moment) said ∷ [])
 
 module _ {M : Medium} {K : Type 0} (shows : K → Standing M) where
   -- From the state s it led to one that the records now stand for; the trace is a run of the machine, and what stands of each document is its
@@ -91,15 +141,29 @@ module _ {M : Medium} {K : Type 0} (shows : K → Standing M) where
     pub by_history : EndsByHistory A s trace left
 
   -- This happened in between. Whatever happened before, the connections stand as after it, and what waited was answered and nothing else;
-  -- and the records stand for the state that it led to.
+  -- the links stand as after it, and what happened at them was right; and the records stand for the state that it led to.
   pub record LivesBy (old : Live K) (history : LiveHistory) (new : Live K) : Type 0 where
     pub stands : (h : Happenings) → StandAfter (places old.hub) h → StandAfter (places new.hub) (at_places history ++ h)
     pub answer : (h : Happenings) → StandAfter (places old.hub) h → AnswerWhatWaited h → AnswerWhatWaited (at_places history ++ h)
     pub bounded : KeepsBounds old.hub new.hub
+    pub linked : (h : LinkHappenings) → LinksStand old.links h → LinksStand new.links (at_links history ++ h)
     pub agreed : new.desk.agreements.now ≡ old.desk.agreements.now
     pub clean : (shows new.desk.station).IsClean → (shows old.desk.station).IsClean
     pub lives : (shows new.desk.station).IsClean → (s : State) → (shows old.desk.station).Rests s
         → LivesFrom new old.desk.agreements.now history s
+
+  -- a try began at that place, was refused, or a fault came; or no link could be opened there for it, and nothing happened
+  abbrev pub BeginsOn : ℕ → Next → ℕ → Live K → Live K → TryBegun → Type 0
+  BeginsOn l what moment old new NoPlace = LivesBy old [] new
+  BeginsOn l what moment old new Begun = (job : Job) × LivesBy old (BeginsTry l what moment (Answered (Handed job)) ∷ []) new
+  BeginsOn l what moment old new (begun.Refused reason) = LivesBy old (BeginsTry l what moment (Answered (Refused reason)) ∷ []) new
+  BeginsOn l what moment old new (begun.Failed fault) = LivesBy old (BeginsTry l what moment (run.Failed fault) ∷ []) new
+
+  -- the link there ended, with the outcome of its try; or there was none, and nothing happened
+  abbrev pub EndsOn : ℕ → ℕ → Live K → Live K → Option EndedTry → Type 0
+  EndsOn l moment old new None = LivesBy old [] new
+  EndsOn l moment old new (Some ended) =
+      (got : TryAnswer) × LivesBy old (EndsTry l ended.what got moment (said_as said_to_outcome ended.said) ∷ []) new
 
   -- something happened in between
   abbrev pub LivesOn : Live K → Live K → Type 0

@@ -2,8 +2,10 @@
 #![tactic(auto)]
 
 mod live;
+mod tries;
 
 pub use live::Live;
+pub use tries::{EndedTry, TryBegun};
 
 #[cfg(test)]
 mod tests;

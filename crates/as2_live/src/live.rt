@@ -5,29 +5,36 @@ ghost use Rattle.as2_hub.specs.Happenings.{Closes};
 ghost use Rattle.as2_hub.specs.Inputs.{comes_if, goes_to, opens_if};
 ghost use Rattle.as2_exchange.specs.declared.answer.Answer.TheVariants.{Ticked};
 ghost use Rattle.as2_station.specs.Theorem.{said_as};
-ghost use Rattle.as2_live.specs.Living.{AnswersPlaces, LivesBy, Ticks, all_at_places};
+ghost use Rattle.as2_records.specs.Calls.{Reads};
+ghost use Rattle.as2_station.specs.Due.{destination, next_behind};
+ghost use Rattle.as2_live.specs.Living.{AnswersPlaces, BeginsOn, EndsOn, LivesBy, LivesOn, Ticks, all_at_places};
 
-use as2_exchange::StoreFault;
+use crate::tries::{EndedTry, TryBegun};
+use as2_exchange::{Bytes, Next, StoreFault};
 use as2_front::StationDesk;
 use as2_hub::Hub;
+use as2_links::{EndedLink, LinkTable};
 use as2_records::Records;
+use as2_sending::{LinkFault, why_of};
 use as2_text::Moment;
 
-/// A live station: its connections, and the desk that answers their requests. What happens is told to it by whoever has the sockets, in any
-/// order.
+/// A live station: its connections, the desk that answers their requests, and the links over which it sends. What happens is told to it by
+/// whoever has the sockets, in any order.
 #[derive(Drop)]
 pub struct Live<'a, K: Records> {
     hub: Hub,
     desk: StationDesk<'a, K>,
+    links: LinkTable,
 }
 
 impl<'a, K: Records> Live<'a, K> {
-    /// These connections, over this desk.
-    pub fn new(hub: Hub, desk: StationDesk<'a, K>) -> Live<'a, K>
+    /// These connections, over this desk, and these links.
+    pub fn new(hub: Hub, desk: StationDesk<'a, K>, links: LinkTable) -> Live<'a, K>
         ensures hub { result.hub ≡ hub }
         ensures desk { result.desk ≡ desk.entry }
+        ensures links { result.links ≡ links }
     {
-        Live { hub, desk }
+        Live { hub, desk, links }
     }
 
     /// The connections, to be looked at.
@@ -37,13 +44,21 @@ impl<'a, K: Records> Live<'a, K> {
         &self.hub
     }
 
-    /// Gives the connections and the desk back.
-    pub fn into_parts(self) -> (Hub, StationDesk<'a, K>)
+    /// The links, to be looked at.
+    pub fn links(&self) -> &LinkTable
+        ensures { result.now ≡ self.now.links }
+    {
+        &self.links
+    }
+
+    /// Gives the connections, the desk and the links back.
+    pub fn into_parts(self) -> (Hub, StationDesk<'a, K>, LinkTable)
         ensures hub { result.0 ≡ self.entry.hub }
         ensures desk { result.1 ≡ self.entry.desk }
+        ensures links { result.2 ≡ self.entry.links }
     {
-        let Live { hub, desk } = self;
-        (hub, desk)
+        let Live { hub, desk, links } = self;
+        (hub, desk, links)
     }
 
     /// A connection is opened at this place. False: there is no such place, or somebody has it, and nothing changes.
@@ -96,5 +111,79 @@ impl<'a, K: Records> Live<'a, K> {
     {
         self.desk.set_moment(moment);
         self.hub.round(&mut self.desk, ready);
+    }
+
+    /// What is to be sent next at this moment, behind what was looked at last; as the station answers it.
+    pub fn next_behind(
+        &mut self,
+        moment: Moment,
+        last: Option<Next>,
+    ) -> Result<Option<Next>, StoreFault>
+        ensures next { Reads (λ s found. found ≡ next_behind s moment last) (K.shows self.old.desk.station)
+            (K.shows self.new.desk.station) result }
+        ensures lives { LivesBy K.shows self.old [] self.new }
+    {
+        self.desk.next_behind(moment, last)
+    }
+
+    /// The address that a request for it goes to, if there is one; as the station answers it.
+    pub fn destination(&mut self, what: Next) -> Result<Option<Bytes>, StoreFault>
+        ensures destination { Reads (λ s found. found ≡ destination self.old.desk.agreements.now s what)
+            (K.shows self.old.desk.station) (K.shows self.new.desk.station) result }
+        ensures lives { LivesBy K.shows self.old [] self.new }
+    {
+        self.desk.destination(what)
+    }
+
+    /// Begins a try of it at this moment, and opens a link for it at this place: it is committed before its request is handed out. NoPlace
+    /// where no link can be opened there, or one is open for it, and then nothing is done.
+    pub fn begin_try(&mut self, at: usize, what: Next, moment: Moment) -> TryBegun
+        ensures begins { BeginsOn K.shows at what moment self.old self.new result }
+    {
+        if !self.links.may_open(at, what) {
+            return TryBegun::NoPlace;
+        }
+        match self.desk.begin(what, moment) {
+            Ok(Ok(job)) => {
+                self.links.open(at, what, job);
+                TryBegun::Begun
+            }
+            Ok(Err(reason)) => TryBegun::Refused(reason),
+            Err(fault) => TryBegun::Failed(fault),
+        }
+    }
+
+    /// As many as this of the bytes that are to be written to the link there went, or all.
+    pub fn link_sent(&mut self, at: usize, most: usize)
+        ensures lives { LivesOn K.shows self.old self.new }
+    {
+        self.links.sent(at, most);
+    }
+
+    /// Takes bytes that came over the link there. None is taken before its whole request was written, nor behind a whole answer.
+    pub fn link_heard(&mut self, at: usize, piece: &[u8])
+        ensures lives { LivesOn K.shows self.old self.new }
+    {
+        self.links.hear(at, piece);
+    }
+
+    /// The partner sends no more over the link there.
+    pub fn link_cut(&mut self, at: usize)
+        ensures lives { LivesOn K.shows self.old self.new }
+    {
+        self.links.cut(at);
+    }
+
+    /// The link there is closed, and what it brought is taken at this moment as the outcome of its try. `fault` is why it brought no
+    /// whole answer, where it brought none. None where no link is there.
+    pub fn end_try(&mut self, at: usize, moment: Moment, fault: LinkFault) -> Option<EndedTry>
+        ensures ends { EndsOn K.shows at moment self.old self.new result }
+    {
+        let Some(EndedLink { what, got }) = self.links.end(at) else {
+            return None;
+        };
+        let why = why_of(&got, fault);
+        let said = self.desk.close(what, got, moment);
+        Some(EndedTry { what, why, said })
     }
 }

@@ -13,5 +13,5 @@ returns g c = record {
       let new = c.tick.new.self in
       ticked g.K.Records.shows old (record old { desk = new }) refl (ap (λ (d : StationDesk g.row.K.Denot). d.agreements.now) c.tick.ensures.same)
       c.tick.ensures.taken.does.clean c.args.moment (said_as Ticked c.tick.result)
-      (took old.desk.agreements.now (Tick c.args.moment) Ticked _ _ c.tick.result c.tick.ensures.taken);
+      (took old.desk.agreements.now (Tick c.args.moment) Ticked _ _ c.tick.result c.tick.ensures.taken) refl;
 }
