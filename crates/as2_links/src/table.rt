@@ -34,6 +34,11 @@ impl LinkTable {
         self.links.iter().position(|link| link.is_none())
     }
 
+    /// The place of the link that is open for it.
+    pub fn place_for(&self, what: Next) -> Option<usize> {
+        self.links.iter().position(|link| is_for(what, link))
+    }
+
     /// The link at this place.
     pub fn at(&self, at: usize) -> Option<&Link> {
         match self.links.get(at) {

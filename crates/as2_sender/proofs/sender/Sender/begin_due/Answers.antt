@@ -1,0 +1,12 @@
+use Rattle.as2_live.proofs.Going.{on_none, on_then}
+use Rattle.as2_sender.proofs.sender.Sender.begin_due.Goals as goal
+
+pub loop-init : goal.loop-init
+loop-init g c = on_none g.K.Records.shows c.args.live.now
+
+pub loop-preserved : goal.loop-preserved
+loop-preserved g c = on_then g.K.Records.shows c.args.live.now c.next_due.new.live c.begin_one.new.live (on_then g.K.Records.shows c.args.live.now c.loop.live c.next_due.new.live c.loop.invariant c.next_due.ensures.lives)
+    c.begin_one.ensures.lives
+
+pub returns-in_default : goal.returns-in_default
+returns-in_default g c = record { lives = on_then g.K.Records.shows c.args.live.now c.loop.live c.next_due.new.live c.loop.invariant c.next_due.ensures.lives }

@@ -1,0 +1,487 @@
+//! Sending beside all else.
+ghost use Rattle.as2_live.specs.Living.{LivesOn};
+
+use crate::aims::{Aim, authority_in, is_receipt};
+use crate::bounds::{
+    CROWDED, LINKS, LINKS_FOR_RECEIPTS, LINKS_OF_HOST, LOOKS, PIECE, REFUSED, STEPS,
+};
+use crate::hosts::Hosts;
+use crate::line::{Did, Line, LinkWaits};
+use crate::names::{Found, Names};
+use crate::notes::{note_barred, note_ended, note_failed, note_refused};
+use crate::passed::Passed;
+use as2_exchange::Next;
+use as2_front::Log;
+use as2_links::LinkTable;
+use as2_live::{Live, TryBegun};
+use as2_records::Records;
+use as2_sending::LinkFault;
+use as2_text::{Memory, Moment};
+use mio::event::Event;
+use mio::net::TcpStream;
+use mio::{Interest, Registry, Token};
+use std::alloc::AllocError;
+use std::net::SocketAddr;
+
+/// The token of the link at place 0; that of another is as much behind it as its place.
+const FIRST: usize = 1_000_000;
+
+/// The place of the link that a token is of, if it is of one.
+pub fn link_of(token: Token) -> Option<usize> {
+    let at = token.0.checked_sub(FIRST)?;
+    if at < LINKS { Some(at) } else { None }
+}
+
+/// When something is done, and where it is noted.
+#[derive(Drop)]
+pub struct Occasion<'a> {
+    /// The moment that is recorded.
+    pub moment: Moment,
+    /// The time of the loop, in milliseconds.
+    pub now: u64,
+    /// Where sockets are registered.
+    pub registry: &'a Registry,
+    /// Where lines are noted.
+    pub log: &'a Log,
+}
+
+/// The sockets of the station's links, and what was looked at of what is due.
+#[derive(Drop)]
+pub struct Sender {
+    rt: HostRuntime,
+    waits: LinkWaits,
+    hosts: Hosts,
+    names: Names,
+    lines: Vec<Option<Line>>,
+    passed: Passed,
+    /// What may have a link again that waited for one.
+    woken: Option<Next>,
+    last_receipt: u64,
+    last_document: u64,
+    /// All that is due was looked at.
+    is_through: bool,
+    /// No try begins any more.
+    is_ending: bool,
+    buffer: Vec<u8>,
+}
+
+impl Sender {
+    /// No link is open, and nothing was looked at.
+    pub fn new(rt: &HostRuntime, waits: LinkWaits, hosts: Hosts) -> Result<Sender, AllocError> {
+        let alloc = rt.alloc();
+        let mut lines = Vec::new(alloc);
+        for _ in 0..LINKS {
+            lines.push(None)?;
+        }
+        Ok(Sender {
+            rt: *rt,
+            waits,
+            hosts,
+            names: Names::new(rt),
+            lines,
+            passed: Passed::new(alloc),
+            woken: None,
+            last_receipt: 0,
+            last_document: 0,
+            is_through: false,
+            is_ending: false,
+            buffer: Vec::from_elem(alloc, 0, PIECE)?,
+        })
+    }
+
+    /// The links that it opens.
+    pub fn table(&self) -> Result<LinkTable, Memory> {
+        LinkTable::new(self.rt.alloc(), LINKS)
+    }
+
+    /// Each link is given up without an outcome: its try is as one that a stop of the computer cut off.
+    pub fn drop_all(&mut self) {
+        for line in self.lines.iter_mut() {
+            *line = None;
+        }
+        self.is_through = false;
+    }
+
+    /// No try begins any more.
+    pub fn end(&mut self) {
+        self.is_ending = true;
+    }
+
+    /// No link is open.
+    pub fn is_idle(&self) -> bool {
+        self.lines.iter().all(|line| line.is_none())
+    }
+
+    /// Something more may be due than was looked at.
+    pub fn wake(&mut self) {
+        self.is_through = false;
+    }
+
+    /// Something is to be done without a wait.
+    pub fn has_more(&self) -> bool {
+        let is_marked = self.lines.iter().any(|line| match line {
+            Some(line) => line.is_marked,
+            None => false,
+        });
+        is_marked || self.may_begin()
+    }
+
+    /// A try may begin, where something is due.
+    fn may_begin(&self) -> bool {
+        !self.is_ending && !self.is_through && self.lines.iter().any(|line| line.is_none())
+    }
+
+    /// Notes what the system says of the socket at a place.
+    pub fn mark(&mut self, at: usize, event: &Event) {
+        if let Some(Some(line)) = self.lines.get_mut(at) {
+            line.mark(event);
+        }
+    }
+
+    /// One turn: each link is gone on with of which the system says something, and what is due begins.
+    pub fn turn<K: Records>(&mut self, live: &mut Live<'_, K>, occasion: &Occasion<'_>)
+        ensures lives { LivesOn K.shows live.old live.new }
+    {
+        self.go_on_all(live, occasion);
+        self.begin_due(live, occasion);
+    }
+
+    /// Goes on with each link.
+    fn go_on_all<K: Records>(&mut self, live: &mut Live<'_, K>, occasion: &Occasion<'_>)
+        ensures lives { LivesOn K.shows live.old live.new }
+    {
+        for at in 0..LINKS {
+            self.go_on_at(live, at, occasion);
+        }
+    }
+
+    /// Goes on with the link at a place.
+    fn go_on_at<K: Records>(&mut self, live: &mut Live<'_, K>, at: usize, occasion: &Occasion<'_>)
+        ensures lives { LivesOn K.shows live.old live.new }
+    {
+        for _ in 0..STEPS {
+            if !self.step(live, at, occasion) {
+                return;
+            }
+        }
+    }
+
+    /// What the socket at a place does: one call of it at most.
+    fn try_line(&mut self, links: &LinkTable, at: usize, now: u64) -> Did {
+        let Some(Some(line)) = self.lines.get_mut(at) else {
+            return Did::Nothing;
+        };
+        if !line.is_marked {
+            return Did::Nothing;
+        }
+        let Some(link) = links.at(at) else {
+            return Did::Nothing;
+        };
+        let did = line.go_on(link, &mut self.buffer, now);
+        line.is_marked = !matches!(did, Did::Nothing);
+        did
+    }
+
+    /// One step at a place. False: there is nothing more to be done now.
+    fn step<K: Records>(
+        &mut self,
+        live: &mut Live<'_, K>,
+        at: usize,
+        occasion: &Occasion<'_>,
+    ) -> bool
+        ensures lives { LivesOn K.shows live.old live.new }
+    {
+        match self.try_line(live.links(), at, occasion.now) {
+            Did::Nothing => false,
+            Did::Wrote(count) => {
+                live.link_sent(at, count);
+                true
+            }
+            Did::Read(count) => {
+                let most = count.min(self.buffer.len());
+                live.link_heard(at, &self.buffer[..most]);
+                true
+            }
+            Did::Ended => {
+                live.link_cut(at);
+                true
+            }
+            Did::Over(fault) => {
+                self.finish(live, at, fault, occasion);
+                false
+            }
+        }
+    }
+
+    /// The socket at a place is closed. What waited for a link to its host may have one.
+    fn close(&mut self, at: usize) {
+        self.is_through = false;
+        let Some(seat) = self.lines.get_mut(at) else {
+            return;
+        };
+        if let Some(line) = seat.take() {
+            if self.woken.is_none() {
+                self.woken = self.passed.take_waiting(line.host.as_str());
+            }
+        }
+    }
+
+    /// The link at a place is over: what it brought is the outcome of its try.
+    fn finish<K: Records>(
+        &mut self,
+        live: &mut Live<'_, K>,
+        at: usize,
+        fault: LinkFault,
+        occasion: &Occasion<'_>,
+    )
+        ensures lives { LivesOn K.shows live.old live.new }
+    {
+        self.close(at);
+        if let Some(ended) = live.end_try(at, occasion.moment, fault) {
+            note_ended(occasion.log, self.rt.alloc(), &ended);
+        }
+    }
+
+    /// Begins what is due, as far as there are links for it.
+    fn begin_due<K: Records>(&mut self, live: &mut Live<'_, K>, occasion: &Occasion<'_>)
+        ensures lives { LivesOn K.shows live.old live.new }
+    {
+        for _ in 0..LOOKS {
+            if !self.may_begin() {
+                return;
+            }
+            let Some(what) = self.next_due(live, occasion.moment) else {
+                self.is_through = true;
+                return;
+            };
+            self.begin_one(live, what, occasion);
+        }
+    }
+
+    /// What is due and wasn't looked at yet: receipts, and then documents.
+    fn next_due<K: Records>(&mut self, live: &mut Live<'_, K>, moment: Moment) -> Option<Next>
+        ensures lives { LivesOn K.shows live.old live.new }
+    {
+        if let Some(what) = self.woken.take() {
+            return Some(what);
+        }
+        let last = Some(Next::Receipt(self.last_receipt));
+        if let Ok(Some(Next::Receipt(number))) = live.next_behind(moment, last) {
+            self.last_receipt = number;
+            return Some(Next::Receipt(number));
+        }
+        let last = Some(Next::Document(self.last_document));
+        if let Ok(Some(Next::Document(number))) = live.next_behind(moment, last) {
+            self.last_document = number;
+            return Some(Next::Document(number));
+        }
+        None
+    }
+
+    /// Begins a try of it, where a link may be opened for it. One that is still open is closed first, and nothing begins beside it.
+    fn begin_one<K: Records>(&mut self, live: &mut Live<'_, K>, what: Next, occasion: &Occasion<'_>)
+        ensures lives { LivesOn K.shows live.old live.new }
+    {
+        if self.passed.holds(what, occasion.now) {
+            return;
+        }
+        if let Some(at) = live.links().place_for(what) {
+            let fault = LinkFault::Slow(self.waits.whole / 1_000);
+            self.finish(live, at, fault, occasion);
+            return;
+        }
+        let Ok(address) = live.destination(what) else {
+            return;
+        };
+        let authority = authority_in(&address);
+        let aim = self.aim(what, authority, occasion.now);
+        self.begin_aimed(live, what, aim, authority, occasion);
+    }
+
+    /// How many links go to that host and port.
+    fn links_to(&self, host: &str) -> usize {
+        self.lines
+            .iter()
+            .filter(|line| match line {
+                Some(line) => line.host.as_str() == host,
+                None => false,
+            })
+            .count()
+    }
+
+    /// How many links are for receipts.
+    fn links_for_receipts(&self) -> usize {
+        self.lines
+            .iter()
+            .filter(|line| match line {
+                Some(line) => line.is_receipt,
+                None => false,
+            })
+            .count()
+    }
+
+    /// Whether it has to wait for a link.
+    fn is_crowded(&self, what: Next, authority: &str) -> bool {
+        self.links_to(authority) >= LINKS_OF_HOST
+            || (is_receipt(what) && self.links_for_receipts() >= LINKS_FOR_RECEIPTS)
+    }
+
+    /// Where it goes.
+    fn aim(&mut self, what: Next, authority: &str, now: u64) -> Aim {
+        if authority.is_empty() {
+            return Aim::Unknown;
+        }
+        let is_posted = is_receipt(what);
+        if is_posted && !self.hosts.allow(authority) {
+            return Aim::Barred;
+        }
+        if self.is_crowded(what, authority) {
+            return Aim::Crowded;
+        }
+        match self.names.address(authority, is_posted, now) {
+            Found::At(address) => Aim::At(address),
+            Found::Nowhere => Aim::Nowhere,
+            Found::Later => Aim::Later,
+        }
+    }
+
+    /// Passes it over until a link to its host has ended.
+    fn wait_for_link(&mut self, what: Next, authority: &str, now: u64) {
+        if let Ok(host) = String::from_str(self.rt.alloc(), authority) {
+            self.passed
+                .add(what, now.saturating_add(CROWDED), Some(host));
+        }
+    }
+
+    /// Begins a try of what goes there.
+    fn begin_aimed<K: Records>(
+        &mut self,
+        live: &mut Live<'_, K>,
+        what: Next,
+        aim: Aim,
+        authority: &str,
+        occasion: &Occasion<'_>,
+    )
+        ensures lives { LivesOn K.shows live.old live.new }
+    {
+        match aim {
+            Aim::Crowded => self.wait_for_link(what, authority, occasion.now),
+            Aim::Later => {}
+            Aim::Barred => {
+                note_barred(occasion.log, self.rt.alloc(), what, authority);
+                self.begin(live, what, None, authority, occasion);
+            }
+            Aim::Nowhere | Aim::Unknown => self.begin(live, what, None, authority, occasion),
+            Aim::At(address) => self.begin(live, what, Some(address), authority, occasion),
+        }
+    }
+
+    /// Begins a try of it, over a link to that address. Without one it has failed at once.
+    fn begin<K: Records>(
+        &mut self,
+        live: &mut Live<'_, K>,
+        what: Next,
+        address: Option<SocketAddr>,
+        authority: &str,
+        occasion: &Occasion<'_>,
+    )
+        ensures lives { LivesOn K.shows live.old live.new }
+    {
+        let Some(at) = live.links().free_place() else {
+            return;
+        };
+        match live.begin_try(at, what, occasion.moment) {
+            TryBegun::NoPlace => {}
+            TryBegun::Begun => self.open(live, at, address, authority, occasion),
+            TryBegun::Refused(reason) => {
+                note_refused(occasion.log, self.rt.alloc(), what, reason);
+                let until = occasion.now.saturating_add(REFUSED);
+                self.passed.add(what, until, None);
+            }
+            TryBegun::Failed(fault) => {
+                note_failed(occasion.log, self.rt.alloc(), what, fault);
+                self.is_through = true;
+            }
+        }
+    }
+
+    /// Opens the socket of a link.
+    fn open<K: Records>(
+        &mut self,
+        live: &mut Live<'_, K>,
+        at: usize,
+        address: Option<SocketAddr>,
+        authority: &str,
+        occasion: &Occasion<'_>,
+    )
+        ensures lives { LivesOn K.shows live.old live.new }
+    {
+        let is_for_receipt = match live.links().at(at) {
+            Some(link) => is_receipt(link.what()),
+            None => false,
+        };
+        let Some(address) = address else {
+            self.finish(live, at, LinkFault::UnknownHost, occasion);
+            return;
+        };
+        match self.line_to(at, address, authority, occasion) {
+            Some(line) => self.seat(at, line, is_for_receipt),
+            None => self.finish(live, at, LinkFault::NoConnection, occasion),
+        }
+    }
+
+    /// A connection to that address that begins to be made.
+    fn line_to(
+        &self,
+        at: usize,
+        address: SocketAddr,
+        authority: &str,
+        occasion: &Occasion<'_>,
+    ) -> Option<Line> {
+        let host = String::from_str(self.rt.alloc(), authority).ok()?;
+        let mut stream = TcpStream::connect(&self.rt, address).ok()?;
+        let _ = stream.set_nodelay(true);
+        let interest = Interest::READABLE | Interest::WRITABLE;
+        let token = Token(FIRST.saturating_add(at));
+        occasion
+            .registry
+            .register(&mut stream, token, interest)
+            .ok()?;
+        Some(Line::new(stream, host, false, occasion.now))
+    }
+
+    /// Puts a socket at its place.
+    fn seat(&mut self, at: usize, line: Line, is_for_receipt: bool) {
+        let mut line = line;
+        line.is_receipt = is_for_receipt;
+        if let Some(seat) = self.lines.get_mut(at) {
+            *seat = Some(line);
+        }
+    }
+
+    /// Once in a while: links whose time is over are closed, and all that is due is looked at anew.
+    pub fn look<K: Records>(&mut self, live: &mut Live<'_, K>, occasion: &Occasion<'_>)
+        ensures lives { LivesOn K.shows live.old live.new }
+    {
+        self.passed.sweep(occasion.now);
+        self.last_receipt = 0;
+        self.last_document = 0;
+        self.is_through = false;
+        for at in 0..LINKS {
+            self.look_at(live, at, occasion);
+        }
+    }
+
+    /// Closes the link at a place where its time is over.
+    fn look_at<K: Records>(&mut self, live: &mut Live<'_, K>, at: usize, occasion: &Occasion<'_>)
+        ensures lives { LivesOn K.shows live.old live.new }
+    {
+        let Some(Some(line)) = self.lines.get(at) else {
+            return;
+        };
+        let Some(fault) = line.fault_by(self.waits, occasion.now) else {
+            return;
+        };
+        self.finish(live, at, fault, occasion);
+    }
+}
