@@ -128,16 +128,12 @@ impl<'a, K: Records> StationDesk<'a, K> {
         ensures taken { TakesEvent self.old.agreements.now (begin_event what moment) said_to_begin
             (K.shows self.old.station) (K.shows self.new.station) result }
     {
-        self.station.begin(self.alloc, self.agreements, what, moment)
+        self.station
+            .begin(self.alloc, self.agreements, what, moment)
     }
 
     /// Takes the outcome of a try at this moment. A fault of the records may come in place of any other answer, and nothing is changed then.
-    pub fn close(
-        &mut self,
-        what: Next,
-        got: TryAnswer,
-        moment: Moment,
-    ) -> Result<Ended, StoreFault>
+    pub fn close(&mut self, what: Next, got: TryAnswer, moment: Moment) -> Result<Ended, StoreFault>
         ensures same { self.new ≡ record self.old { station = self.new.station } }
         ensures taken { TakesEvent self.old.agreements.now (outcome_event what got moment) said_to_outcome
             (K.shows self.old.station) (K.shows self.new.station) result }

@@ -1,5 +1,5 @@
 -- What is kept of links, after what happened at them.
-use Rattle.std.specs.Prelude.{◌≡◌, ℕ, ◌==◌, Bool, false, drop, List, [], ◌∷◌, ◌++◌, Option, Some, None, slice_get}
+use Rattle.std.specs.Prelude.{◌≡◌, ℕ, ◌==◌, Bool, true, false, drop, List, [], ◌∷◌, ◌++◌, Option, Some, None, slice_get}
 use Rattle.std.specs.List.{list_any}
 use Rattle.as2_exchange.specs.declared.next.Next.{Next}
 use Rattle.as2_exchange.specs.declared.next.Next.TheVariants.{Document, Receipt}
@@ -19,6 +19,11 @@ unsent_of link = drop link.sent link.job.bytes
 abbrev pub HoldsAnswer : Answer → List ℕ → Bool → Type 0
 HoldsAnswer (Awaited parser) heard is_over = HasKept parser heard × (is_over ≡ false)
 HoldsAnswer (Got answer) heard is_over = GetsBy is_over heard answer
+
+-- it is known what the try got
+abbrev pub is_answered : Answer → Bool
+is_answered (Awaited parser) = false
+is_answered (Got answer) = true
 
 -- what is kept of a link is what went over it
 pub record Holds (link : Link) (s : LinkState) : Type 0 where
@@ -41,6 +46,11 @@ PlaceHolds (Some (Some link)) (Some s) = Holds link s
 pub record LinksStand (table : LinkTable) (h : LinkHappenings) : Type 0 where
   pub each : (l : ℕ) → PlaceHolds (slice_get (links_of table) l) (link_at l h)
   pub right : AllRight h
+
+-- the link there, if there is one
+abbrev pub link_in : Option (Option Link) → Option Link
+link_in None = None
+link_in (Some link) = link
 
 -- the bytes that are still to be written there
 abbrev pub unsent_at : Option (Option Link) → List ℕ

@@ -3,7 +3,7 @@ ghost use Rattle.std.specs.Prelude.{◌≡◌, ◌≤◌, ◌++◌, ℕ, List, l
 ghost use Rattle.as2_exchange.specs.declared.event.TryAnswer.TheVariants as TryAnswer;
 ghost use Rattle.as2_messages.specs.AnswerPieces.{HasKept};
 ghost use Rattle.as2_links.specs.Happenings.{GetsBy, LinkState, fresh};
-ghost use Rattle.as2_links.specs.Links.{Holds, HoldsAnswer, unsent_of};
+ghost use Rattle.as2_links.specs.Links.{Holds, HoldsAnswer, is_answered, unsent_of};
 
 use as2_exchange::{Job, Next, TryAnswer};
 use as2_messages::{AnswerParser, ParsedAnswer, ReceivedAnswer};
@@ -124,7 +124,9 @@ impl Link {
     }
 
     /// A whole answer came, or it is known that none can.
-    pub fn is_answered(&self) -> bool {
+    pub fn is_answered(&self) -> bool
+        ensures { result ≡ is_answered self.now.answer }
+    {
         matches!(self.answer, Answer::Got(_))
     }
 

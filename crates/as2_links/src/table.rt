@@ -1,8 +1,8 @@
 //! The links that are open, each at its place.
-ghost use Rattle.std.specs.Prelude.{◌≡◌, ◌∷◌, ◌++◌, [], take, IfOk, IsTrue, slice_get};
+ghost use Rattle.std.specs.Prelude.{◌≡◌, ◌∷◌, ◌++◌, [], take, option_map, position, is_none, IfOk, IsTrue, slice_get};
 ghost use Rattle.as2_links.specs.Happenings.{LinkHappenings, Begins, Sends, Hears, Cuts, if_so};
 ghost use Rattle.std.specs.List.{list_any};
-ghost use Rattle.as2_links.specs.Links.{LinksStand, MayOpen, ended_at, is_for, links_of, unsent_at};
+ghost use Rattle.as2_links.specs.Links.{LinksStand, MayOpen, ended_at, is_for, link_in, links_of, unsent_at};
 
 use crate::link::{EndedLink, Link};
 use as2_exchange::{Job, Next};
@@ -30,17 +30,23 @@ impl LinkTable {
     }
 
     /// The first place at which no link is.
-    pub fn free_place(&self) -> Option<usize> {
+    pub fn free_place(&self) -> Option<usize>
+        ensures { result ≡ position is_none (links_of self.now) }
+    {
         self.links.iter().position(|link| link.is_none())
     }
 
     /// The place of the link that is open for it.
-    pub fn place_for(&self, what: Next) -> Option<usize> {
+    pub fn place_for(&self, what: Next) -> Option<usize>
+        ensures { result ≡ position (is_for what) (links_of self.now) }
+    {
         self.links.iter().position(|link| is_for(what, link))
     }
 
     /// The link at this place.
-    pub fn at(&self, at: usize) -> Option<&Link> {
+    pub fn at(&self, at: usize) -> Option<&Link>
+        ensures { option_map (λ link. link.now) result ≡ link_in (slice_get (links_of self.now) at) }
+    {
         match self.links.get(at) {
             Some(Some(link)) => Some(link),
             _ => None,

@@ -46,7 +46,7 @@ module _ {M : Medium} {R : Type 0} (shows : R → Standing M) (basis : Basis) wh
   goes_round a b c d e before turn command look = goes_lives a d e (goes_then a c d (goes_lives a b c before turn) command) look
 
   -- a command that was lent the records
-  module _ (given : Forwarded) (asked : IsFor basis given) (old new : Live (Bounded R)) (hub : new.hub ≡ old.hub)
+  module _ (given : Forwarded) (asked : IsFor basis given) (old new : Live (Bounded R)) (hub : new.hub ≡ old.hub) (links : new.links ≡ old.links)
       (agreed : new.desk.agreements.now ≡ basis.agreed.agreements)
       (lends : LendsTo shows (texts given.words.now) given.clock given.agreements_path.now given.agreements.now (Some old.desk.station.records)
       (Some new.desk.station.records)) where
@@ -67,7 +67,7 @@ module _ {M : Medium} {R : Type 0} (shows : R → Standing M) (basis : Basis) wh
         (subst (λ (A : AgreedValues). agreements_reading basis.agreed.text.items ≡ Ok A) (sym by.agreed) by.text) in (
           Commanded (texts given.words.now) ∷ [],
           commanded (λ (b : Bounded R). shows b.records) old new hub (agreed ∙ sym by.agreed) lends.clean
-              (texts given.words.now) (led old.desk.agreements.now reading asked.asks),
+              (texts given.words.now) (led old.desk.agreements.now reading asked.asks) links,
         )
 
   -- what its records stand for then

@@ -15,6 +15,7 @@ use as2_front::{Log, StationDesk};
 use as2_host::OpenStores;
 use as2_hub::Hub;
 use as2_lent::{Forwarded, refused, run_forwarded};
+use as2_links::LinkTable;
 use as2_live::Live;
 use as2_records::Records;
 use as2_station::Station;
@@ -143,20 +144,22 @@ fn judge<'a>(
     (name, verdict)
 }
 
-/// Puts a station together: it answers over these records, and these connections.
+/// Puts a station together: it answers over these records and these connections, and sends over these links.
 pub(crate) fn answering<'a, R: Records>(
     basis: &'a Basis,
     moment: Moment,
     records: Bounded<R>,
     hub: Hub,
+    links: LinkTable,
 ) -> Live<'a, Bounded<R>>
     ensures hub { result.hub ≡ hub }
+    ensures links { result.links ≡ links }
     ensures agreed { result.desk.agreements.now ≡ basis.now.agreed.agreements }
     ensures records { result.desk.station ≡ records }
 {
     let station = Station::new(records);
     let desk = StationDesk::new(basis.alloc, &basis.agreed.agreements, moment, station);
-    Live::new(hub, desk.noting(&basis.log))
+    Live::new(hub, desk.noting(&basis.log), links)
 }
 
 /// The records under the limit of a station.
@@ -193,7 +196,7 @@ fn run_words<'a, R: Records + Drop, O: OpenStores>(
 ) -> (Outcome, Option<Live<'a, Bounded<R>>>)
     ensures { IsFor basis.now given.entry → IfSome result.1 (RunsOn R.shows basis.now live.entry) }
 {
-    let (hub, desk) = live.into_parts();
+    let (hub, desk, links) = live.into_parts();
     let records = desk.into_station().into_records().into_records();
     let size = stores.size(basis.store.as_str());
     let (outcome, records) = run_forwarded(basis.alloc, given, records, size);
@@ -201,7 +204,7 @@ fn run_words<'a, R: Records + Drop, O: OpenStores>(
         return (outcome, None);
     };
     let records = bounded(basis, stores, records);
-    (outcome, Some(answering(basis, moment, records, hub)))
+    (outcome, Some(answering(basis, moment, records, hub, links)))
 }
 
 /// The words of a demand, to be read.

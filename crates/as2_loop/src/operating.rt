@@ -14,7 +14,7 @@ use crate::clock::{Moments, told_seconds};
 use crate::commands::{Basis, DONE, answering, bounded};
 use crate::control::Control;
 use crate::marks::FileMark;
-use crate::shell::{BOUNDS, Shell};
+use crate::shell::{BOUNDS, Shell, Sockets};
 use as2_bounded::Bounded;
 use as2_commands::{Operating, RunOptions, Task, options_in};
 use as2_desk::{AgreedText, CommandFault, Console, Host, Ran, agreed_text, refuse};
@@ -24,6 +24,7 @@ use as2_host::{OpenFault, OpenStores, ReadFiles};
 use as2_http::Sink;
 use as2_hub::Hub;
 use as2_records::Records;
+use as2_sender::{Hosts, LinkWaits, Sender};
 use as2_shut::ShutRecords;
 use as2_text::Moment;
 use sha2::{Digest, Sha256};
@@ -101,6 +102,17 @@ fn hint_control(rt: &HostRuntime, error: &io::Error) {
     let _ = rt.stderr().write_all(hint);
 }
 
+/// What sends, with these waits, and receipts where they may be sent.
+fn sender_of(rt: &HostRuntime, wanted: &Operating<'_>) -> io::Result<Sender> {
+    let waits = waits_of(wanted);
+    let hosts = Hosts::new(rt.alloc(), wanted.receipts_to)?;
+    let link_waits = LinkWaits {
+        wait: waits.wait,
+        whole: waits.whole,
+    };
+    Ok(Sender::new(rt, link_waits, hosts)?)
+}
+
 /// The sockets of a station over a store that is open.
 fn shell_of(
     rt: &HostRuntime,
@@ -118,10 +130,13 @@ fn shell_of(
         }
     };
     say_address(rt, &listener)?;
-    let askers = Askers::new(rt.alloc(), control)?;
+    let sockets = Sockets {
+        door: mio::net::TcpListener::from_std(listener),
+        askers: Askers::new(rt.alloc(), control)?,
+        sender: sender_of(rt, wanted)?,
+    };
     let moments = Moments::new(rt, wanted.moment, moment);
-    let socket = mio::net::TcpListener::from_std(listener);
-    Shell::new(rt, waits_of(wanted), moments, socket, askers)
+    Shell::new(rt, waits_of(wanted), moments, sockets)
 }
 
 /// What a station begins with, over a store that is open.
@@ -176,9 +191,10 @@ fn turn_over<R: Records + Drop, O: OpenStores>(
 {
     let Held { basis, hub, shell } = held;
     let mut shell = shell;
-    let live = answering(&basis, moment, records, hub);
+    let links = shell.new_links()?;
+    let live = answering(&basis, moment, records, hub, links);
     let live = shell.run(&basis, stores, live)?;
-    let (hub, desk) = live.into_parts();
+    let (hub, desk, _) = live.into_parts();
     let records = desk.into_station().into_records().into_records();
     Ok(Turned {
         records,

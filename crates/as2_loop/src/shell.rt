@@ -20,8 +20,10 @@ use as2_control::{Outcome, outcome_frame, read_demand};
 use as2_exchange::StoreFault;
 use as2_host::OpenStores;
 use as2_hub::{Bounds, Hub};
+use as2_links::LinkTable;
 use as2_live::Live;
 use as2_records::Records;
+use as2_sender::{Occasion, Sender, link_of};
 use mio::event::Event;
 use mio::net::{TcpListener, TcpStream};
 use mio::{Events, Interest, Poll, Token};
@@ -48,6 +50,7 @@ pub(crate) struct Shell {
     poll: Poll,
     door: Door,
     askers: Askers,
+    sender: Sender,
     peers: Vec<Option<Peer>>,
     turns: Turns,
     /// A place became free, which somebody may wait for.
@@ -101,17 +104,32 @@ fn mark(peer: &mut Peer, event: &Event) {
     peer.may_write = peer.may_write || event.is_writable() || is_broken;
 }
 
+/// What a station begins with.
+#[derive(Drop)]
+pub(crate) struct Sockets {
+    /// Where partners connect.
+    pub door: TcpListener,
+    /// Where commands are asked for.
+    pub askers: Askers,
+    /// What sends.
+    pub sender: Sender,
+}
+
 impl Shell {
-    /// Over this socket that listens and this control socket, with these waits.
+    /// Over these sockets, with these waits.
     pub(crate) fn new(
         rt: &HostRuntime,
         waits: Waits,
         moments: Moments,
-        socket: TcpListener,
-        askers: Askers,
+        sockets: Sockets,
     ) -> io::Result<Shell> {
         let alloc = rt.alloc();
-        let mut socket = socket;
+        let Sockets {
+            door,
+            askers,
+            sender,
+        } = sockets;
+        let mut socket = door;
         let mut askers = askers;
         let poll = Poll::new(rt)?;
         let registry = poll.registry();
@@ -132,6 +150,7 @@ impl Shell {
             poll,
             door: Door::new(socket),
             askers,
+            sender,
             peers,
             turns: Turns::new(alloc, CONNECTIONS)?,
             is_freed: false,
@@ -159,7 +178,7 @@ impl Shell {
             self.wait(&mut events)?;
             self.turn(&mut current, &events)?;
             current = self.attend(basis, stores, current)?;
-            self.look(basis, &mut current)?;
+            self.go_on(basis, &mut current)?;
             self.tell(basis);
             if self.is_shut || self.has_stopped() {
                 break;
@@ -173,6 +192,15 @@ impl Shell {
         self.is_shut
     }
 
+    /// No link is open yet, nor any more.
+    pub(crate) fn new_links(&mut self) -> io::Result<LinkTable> {
+        self.sender.drop_all();
+        match self.sender.table() {
+            Ok(table) => Ok(table),
+            Err(_) => Err(io::Error::from(ErrorKind::OutOfMemory)),
+        }
+    }
+
     /// The station has stopped: takes its socket away, and tells those who asked to stop.
     pub(crate) fn end(self) {
         let Shell { rt, askers, .. } = self;
@@ -181,7 +209,7 @@ impl Shell {
 
     /// How long the next turn may wait, in milliseconds.
     fn most_wait(&self) -> u64 {
-        if !self.turns.is_empty() || self.askers.has_more() {
+        if !self.turns.is_empty() || self.askers.has_more() || self.sender.has_more() {
             return 0;
         }
         let now = self.watch.now;
@@ -240,6 +268,7 @@ impl Shell {
     {
         if !ready.is_empty() {
             live.answer(self.moments.now(), ready);
+            self.sender.wake();
         }
     }
 
@@ -261,6 +290,8 @@ impl Shell {
                 self.door.may_accept = true;
             } else if token == CONTROL || seat_of(token).is_some() {
                 self.askers.mark(event);
+            } else if let Some(at) = link_of(token) {
+                self.sender.mark(at, event);
             } else if let Some(Some(peer)) = self.peers.get_mut(token.0) {
                 mark(peer, event);
                 self.turns.add(token.0)?;
@@ -380,6 +411,7 @@ impl Shell {
             self.askers.let_go(asked.seat);
             return Ok(live);
         };
+        self.sender.wake();
         let attended = attend(basis, self.moments.now(), &demand, stores, live);
         let Attended {
             outcome,
@@ -412,6 +444,7 @@ impl Shell {
     /// The station is to stop: nobody is accepted any more, and what is under way has a while.
     fn stop(&mut self, now: u64) {
         self.door.shut();
+        self.sender.end();
         self.looked = 0;
         if self.end.is_none() {
             self.end = Some(now.saturating_add(STOP));
@@ -421,9 +454,48 @@ impl Shell {
     /// The station was to stop, and nothing is under way any more, or its time is over.
     fn has_stopped(&self) -> bool {
         match self.end {
-            Some(end) => end <= self.watch.now || self.peers.iter().all(|peer| peer.is_none()),
+            Some(end) => end <= self.watch.now || self.is_idle(),
             None => false,
         }
+    }
+
+    /// Nobody is connected, and no link is open.
+    fn is_idle(&self) -> bool {
+        self.sender.is_idle() && self.peers.iter().all(|peer| peer.is_none())
+    }
+
+    /// Sends what is due, and then looks at what is looked at once in a while.
+    fn go_on<K: Records>(&mut self, basis: &Basis, live: &mut Live<'_, K>) -> io::Result<()>
+        ensures lives { LivesOn K.shows live.old live.new }
+    {
+        self.send(basis, live);
+        self.look(basis, live)
+    }
+
+    /// Goes on with the links, and begins what is due.
+    fn send<K: Records>(&mut self, basis: &Basis, live: &mut Live<'_, K>)
+        ensures lives { LivesOn K.shows live.old live.new }
+    {
+        let occasion = Occasion {
+            moment: self.moments.now(),
+            now: self.watch.now,
+            registry: self.poll.registry(),
+            log: &basis.log,
+        };
+        self.sender.turn(live, &occasion);
+    }
+
+    /// Looks at the links, and at all that is due anew.
+    fn look_at_links<K: Records>(&mut self, basis: &Basis, live: &mut Live<'_, K>)
+        ensures lives { LivesOn K.shows live.old live.new }
+    {
+        let occasion = Occasion {
+            moment: self.moments.now(),
+            now: self.watch.now,
+            registry: self.poll.registry(),
+            log: &basis.log,
+        };
+        self.sender.look(live, &occasion);
     }
 
     /// Writes the lines of what happened.
@@ -448,6 +520,7 @@ impl Shell {
         self.mark_crowd(basis, live.hub(), now);
         self.give_room(basis, live);
         self.look_at_all(basis, live)?;
+        self.look_at_links(basis, live);
         let said = live.tick(self.moments.now());
         note_tick(basis, said);
         self.mind(basis, said.is_err());

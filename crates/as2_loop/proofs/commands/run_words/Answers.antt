@@ -17,7 +17,8 @@ returns g c asked =
     (c.into_records.ensures ∙ (c.into_station.ensures ∙ ap (λ (d : StationDesk (Bounded g.row.R.Denot)). d.station) c.into_parts-hub.ensures.desk)) in
     let behind : new.desk.station.records ≡ c.in-Some.records
     = ap (λ (b : Bounded g.row.R.Denot). b.records) c.answering.ensures.records ∙ c.bounded-records.ensures in
-    goes_by_command shows c.args.basis.now given asked old new (c.answering.ensures.hub ∙ c.into_parts-hub.ensures.hub) c.answering.ensures.agreed
+    goes_by_command shows c.args.basis.now given asked old new (c.answering.ensures.hub ∙ c.into_parts-hub.ensures.hub)
+    (c.answering.ensures.links ∙ c.into_parts-hub.ensures.links) c.answering.ensures.agreed
     (subst (λ (r : g.row.R.Denot). LendsTo shows (texts given.words.now) given.clock given.agreements_path.now given.agreements.now (Some r)
     (Some new.desk.station.records)) before
     (subst (λ (r : Option g.row.R.Denot). LendsTo shows (texts given.words.now) given.clock given.agreements_path.now given.agreements.now

@@ -8,4 +8,9 @@ pub returns-in_err-look_at_all : goal.returns-in_err-look_at_all
 returns-in_err-look_at_all g c = record { lives = on_then g.K.Records.shows c.args.live.now c.give_room.new.live c.look_at_all.new.live c.give_room.ensures.lives c.look_at_all.ensures.lives }
 
 pub returns : goal.returns
-returns g c = record { lives = on_then g.K.Records.shows c.args.live.now c.look_at_all.new.live c.tick-said.new.self (on_then g.K.Records.shows c.args.live.now c.give_room.new.live c.look_at_all.new.live c.give_room.ensures.lives c.look_at_all.ensures.lives) (_, c.tick-said.ensures.ticks) }
+returns g c = record {
+  lives = on_then g.K.Records.shows c.args.live.now c.look_at_links.new.live c.tick-said.new.self
+      (on_then g.K.Records.shows c.args.live.now c.look_at_all.new.live c.look_at_links.new.live
+      (on_then g.K.Records.shows c.args.live.now c.give_room.new.live c.look_at_all.new.live c.give_room.ensures.lives c.look_at_all.ensures.lives)
+      c.look_at_links.ensures.lives) (_, c.tick-said.ensures.ticks);
+}
