@@ -244,15 +244,20 @@ fn say_number(answer: &mut Answer, found: Result<Option<u64>, StoreFault>) {
     }
 }
 
-/// Answers with the least number of the documents, or of the receipts, that are due at a moment.
+/// Answers with the least number of the documents, or of the receipts, that are due at a moment: `due-document MOMENT`; or
+/// `due-document MOMENT | NUMBER`, behind that number.
 fn due<K: Records>(records: &mut K, verb: &str, rest: &str, answer: &mut Answer) {
-    let Some(moment) = moment_in(rest, answer) else {
+    let (moment, behind) = match rest.split_once(" | ") {
+        Some((moment, number)) => (moment, Some(answer.number_in(number))),
+        None => (rest, None),
+    };
+    let Some(moment) = moment_in(moment, answer) else {
         return;
     };
     if verb == "due-document" {
-        say_number(answer, records.due_out(moment));
+        say_number(answer, records.due_out(moment, behind));
     } else {
-        say_number(answer, records.due_receipt(moment));
+        say_number(answer, records.due_receipt(moment, behind));
     }
 }
 
