@@ -23,7 +23,7 @@ HoldsAnswer (Got answer) heard is_over = GetsBy is_over heard answer
 -- it is known what the try got
 abbrev pub is_answered : Answer → Bool
 is_answered (Awaited parser) = false
-is_answered (Got answer) = true
+is_answered (Got it) = true
 
 -- what is kept of a link is what went over it
 pub record Holds (link : Link) (s : LinkState) : Type 0 where
