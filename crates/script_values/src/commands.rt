@@ -90,6 +90,10 @@ fn say_operating(answer: &mut Answer, given: &Operating<'_>) {
         answer.say(", ");
     }
     say_waits(answer, given.waits);
+    if let Some(hosts) = given.receipts_to {
+        answer.say(", receipts to ");
+        answer.say(hosts);
+    }
     say_moment(answer, given.moment);
 }
 
