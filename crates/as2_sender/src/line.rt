@@ -58,6 +58,30 @@ pub(crate) struct Line {
     moved: u64,
 }
 
+/// What came of a connection that was to be made.
+#[derive(Drop)]
+pub(crate) enum Dialled {
+    /// It begins to be made.
+    Line(Line),
+    /// There is no address to connect to.
+    Nowhere,
+    /// It can't be made.
+    Failed,
+    /// The system has nothing to make it with.
+    Wanting,
+}
+
+/// Errors of Linux that say that the system has no more descriptors (ENFILE, EMFILE), memory (ENOMEM) or buffers (ENOBUFS).
+const WANTING: [i32; 4] = [23, 24, 12, 105];
+
+/// The system has nothing to make a connection with.
+pub(crate) fn is_wanting(error: &io::Error) -> bool {
+    match error.raw_os_error() {
+        Some(number) => WANTING.contains(&number),
+        None => false,
+    }
+}
+
 /// Why no connection came about.
 fn connect_fault(error: &io::Error) -> LinkFault {
     match error.kind() {
@@ -68,11 +92,11 @@ fn connect_fault(error: &io::Error) -> LinkFault {
 
 impl Line {
     /// A connection that begins to be made.
-    pub(crate) fn new(stream: TcpStream, host: String, is_receipt: bool, now: u64) -> Line {
+    pub(crate) fn new(stream: TcpStream, host: String, now: u64) -> Line {
         Line {
             stream,
             host,
-            is_receipt,
+            is_receipt: false,
             phase: Phase::Connecting,
             may_read: false,
             may_write: false,

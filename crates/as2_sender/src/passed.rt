@@ -35,10 +35,15 @@ impl Passed {
             .any(|entry| entry.what == what && now < entry.until)
     }
 
+    /// No more can be.
+    pub(crate) fn is_full(&self) -> bool {
+        self.entries.len() >= KEPT
+    }
+
     /// From now on it is, until then. Where as many are as may be, or memory is wanting, it isn't.
     pub(crate) fn add(&mut self, what: Next, until: u64, host: Option<String>) {
         self.entries.retain(|entry| entry.what != what);
-        if self.entries.len() < KEPT {
+        if !self.is_full() {
             let _ = self.entries.push(Entry { what, until, host });
         }
     }

@@ -6,7 +6,7 @@ use crate::bounds::{
     CROWDED, LINKS, LINKS_FOR_RECEIPTS, LINKS_OF_HOST, LOOKS, PIECE, REFUSED, STEPS,
 };
 use crate::hosts::Hosts;
-use crate::line::{Did, Line, LinkWaits};
+use crate::line::{Dialled, Did, Line, LinkWaits, is_wanting};
 use crate::names::{Found, Names};
 use crate::notes::{note_barred, note_ended, note_failed, note_refused};
 use crate::passed::Passed;
@@ -371,12 +371,14 @@ impl Sender {
                 note_barred(occasion.log, self.rt.alloc(), what, authority);
                 self.begin(live, what, None, authority, occasion);
             }
+            Aim::Unknown if self.passed.is_full() => {}
             Aim::Nowhere | Aim::Unknown => self.begin(live, what, None, authority, occasion),
             Aim::At(address) => self.begin(live, what, Some(address), authority, occasion),
         }
     }
 
-    /// Begins a try of it, over a link to that address. Without one it has failed at once.
+    /// Begins a try of it, over a link to that address. Without one it has failed at once. Where the system has no socket to give, nothing
+    /// begins for now.
     fn begin<K: Records>(
         &mut self,
         live: &mut Live<'_, K>,
@@ -390,9 +392,17 @@ impl Sender {
         let Some(at) = live.links().free_place() else {
             return;
         };
+        let dialled = match address {
+            Some(address) => self.dial(at, address, authority, occasion),
+            None => Dialled::Nowhere,
+        };
+        if matches!(dialled, Dialled::Wanting) {
+            self.is_through = true;
+            return;
+        }
         match live.begin_try(at, what, occasion.moment) {
             TryBegun::NoPlace => {}
-            TryBegun::Begun => self.open(live, at, address, authority, occasion),
+            TryBegun::Begun => self.seat(live, at, dialled, is_receipt(what), occasion),
             TryBegun::Refused(reason) => {
                 note_refused(occasion.log, self.rt.alloc(), what, reason);
                 let until = occasion.now.saturating_add(REFUSED);
@@ -405,55 +415,55 @@ impl Sender {
         }
     }
 
-    /// Opens the socket of a link.
-    fn open<K: Records>(
-        &mut self,
-        live: &mut Live<'_, K>,
-        at: usize,
-        address: Option<SocketAddr>,
-        authority: &str,
-        occasion: &Occasion<'_>,
-    )
-        ensures lives { LivesOn K.shows live.old live.new }
-    {
-        let is_for_receipt = match live.links().at(at) {
-            Some(link) => is_receipt(link.what()),
-            None => false,
-        };
-        let Some(address) = address else {
-            self.finish(live, at, LinkFault::UnknownHost, occasion);
-            return;
-        };
-        match self.line_to(at, address, authority, occasion) {
-            Some(line) => self.seat(at, line, is_for_receipt),
-            None => self.finish(live, at, LinkFault::NoConnection, occasion),
-        }
-    }
-
-    /// A connection to that address that begins to be made.
-    fn line_to(
+    /// Begins to make a connection to that address. No byte of a request goes over it before its try has begun.
+    fn dial(
         &self,
         at: usize,
         address: SocketAddr,
         authority: &str,
         occasion: &Occasion<'_>,
-    ) -> Option<Line> {
-        let host = String::from_str(self.rt.alloc(), authority).ok()?;
-        let mut stream = TcpStream::connect(&self.rt, address).ok()?;
+    ) -> Dialled {
+        let Ok(host) = String::from_str(self.rt.alloc(), authority) else {
+            return Dialled::Wanting;
+        };
+        let mut stream = match TcpStream::connect(&self.rt, address) {
+            Ok(stream) => stream,
+            Err(error) if is_wanting(&error) => return Dialled::Wanting,
+            Err(_) => return Dialled::Failed,
+        };
         let _ = stream.set_nodelay(true);
         let interest = Interest::READABLE | Interest::WRITABLE;
         let token = Token(FIRST.saturating_add(at));
-        occasion
-            .registry
-            .register(&mut stream, token, interest)
-            .ok()?;
-        Some(Line::new(stream, host, false, occasion.now))
+        match occasion.registry.register(&mut stream, token, interest) {
+            Ok(()) => Dialled::Line(Line::new(stream, host, occasion.now)),
+            Err(_) => Dialled::Wanting,
+        }
+    }
+
+    /// Gives a link that was opened its socket. Without one its try has failed.
+    fn seat<K: Records>(
+        &mut self,
+        live: &mut Live<'_, K>,
+        at: usize,
+        dialled: Dialled,
+        is_receipt: bool,
+        occasion: &Occasion<'_>,
+    )
+        ensures lives { LivesOn K.shows live.old live.new }
+    {
+        match dialled {
+            Dialled::Line(line) => self.put(at, line, is_receipt),
+            Dialled::Nowhere => self.finish(live, at, LinkFault::UnknownHost, occasion),
+            Dialled::Failed | Dialled::Wanting => {
+                self.finish(live, at, LinkFault::NoConnection, occasion);
+            }
+        }
     }
 
     /// Puts a socket at its place.
-    fn seat(&mut self, at: usize, line: Line, is_for_receipt: bool) {
+    fn put(&mut self, at: usize, line: Line, is_receipt: bool) {
         let mut line = line;
-        line.is_receipt = is_for_receipt;
+        line.is_receipt = is_receipt;
         if let Some(seat) = self.lines.get_mut(at) {
             *seat = Some(line);
         }

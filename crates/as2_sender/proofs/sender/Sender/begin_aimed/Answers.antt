@@ -7,3 +7,6 @@ returns-in-Crowded g c = record { lives = on_none g.K.Records.shows c.args.live.
 
 pub returns-in-Later : goal.returns-in-Later
 returns-in-Later g c = record { lives = on_none g.K.Records.shows c.args.live.now }
+
+pub returns-in-Unknown : goal.returns-in-Unknown
+returns-in-Unknown g c = record { lives = on_none g.K.Records.shows c.args.live.now }
