@@ -102,7 +102,7 @@ fn sends(rt: HostRuntime) -> Result<(), Fail> {
     assert!(rt; live.next_behind(moment(20)?, Some(Next::Document(0)))? == Some(what));
     assert!(rt; live.next_behind(moment(20)?, Some(what))?.is_none());
     let address = live.destination(what)?.ok_or("an address")?;
-    assert_eq!(rt; address.as_slice(), b"http://127.0.0.1:8081/as2");
+    assert!(rt; address.as_slice() == b"http://127.0.0.1:8081/as2".as_slice());
     assert!(rt; live.begin_try(1, what, moment(20)?) == TryBegun::Begun);
     assert!(rt; live.begin_try(0, what, moment(20)?) == TryBegun::NoPlace);
     assert_eq!(rt; live.links().place_for(what), Some(1));
