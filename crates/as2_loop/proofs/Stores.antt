@@ -1,5 +1,5 @@
 -- A station's store: it is opened, led on and closed; or what is kept there is kept.
-use Rattle.std.proofs.Common.{◌≡◌, ◌∙◌, ◌⊎◌, inl, inr, ℕ, List, [], Option, Some, None, Result, Ok, Err, refl, sym, ap, subst}
+use Rattle.std.proofs.Common.{◌≡◌, ◌∙◌, ℕ, List, Option, Some, None, Result, Ok, Err, sym, ap, subst}
 use Rattle.std.specs.Prelude.{IfErr, IfOk, IfSome, string_bytes}
 use Rattle.as2_agreement.specs.Agreements.{AgreedValues}
 use Rattle.as2_exchange.specs.State.{State}
@@ -10,7 +10,7 @@ use Rattle.as2_desk.specs.Statuses.{status_done}
 use Rattle.as2_desk.specs.declared.agreed.AgreedText.{AgreedText}
 use Rattle.as2_desk.specs.declared.refusal.CommandFault.{CommandFault}
 use Rattle.as2_desk.specs.declared.refusal.CommandFault.TheVariants as fault
-use Rattle.as2_loop.specs.Running.{GoesOnWith, HasRun, IfShut, IsOfText, IsOver, KeepsAll, KeepsBasis, LeadsFrom, LeadsOn, TellsCame, LeadsRecords}
+use Rattle.as2_loop.specs.Running.{GoesOnWith, HasRun, IfShut, IsOfText, IsOver, KeepsBasis, LeadsFrom, LeadsOn, TellsCame, LeadsRecords}
 use Rattle.as2_loop.specs.declared.operating.Held.{Held}
 use Rattle.as2_loop.specs.declared.operating.Spanned.{Spanned}
 use Rattle.as2_loop.specs.declared.operating.Spanned.TheVariants as spanned
