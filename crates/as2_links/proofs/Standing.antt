@@ -8,8 +8,8 @@ use Rattle.as2_exchange.specs.declared.answer.Job.{Job}
 use Rattle.as2_exchange.specs.declared.event.TryAnswer.{TryAnswer}
 use Rattle.as2_exchange.specs.declared.next.Next.{Next}
 use Rattle.as2_exchange.specs.declared.next.Next.TheVariants.{Document, Receipt}
-use Rattle.as2_links.specs.Happenings.{Begins, Cuts, Ends, GetsBy, Hears, IsBegun, IsLinkFor, IsOpenWith, IsRight, LinkHappening, LinkHappenings, LinkState, Sends, fresh, if_so, link_at, link_with, place_of}
-use Rattle.as2_links.specs.Links.{Holds, LinksStand, MayOpen, PlaceHolds, is_for, is_same, links_of, unsent_of}
+use Rattle.as2_links.specs.Happenings.{Begins, Cuts, Ends, GetsBy, Hears, IsBegun, IsLinkFor, IsOpenWith, IsRight, LinkHappening, LinkHappenings, LinkState, Sends, fresh, if_so, link_at, link_with, link_place}
+use Rattle.as2_links.specs.Links.{HoldsLink, LinksStand, MayOpen, PlaceHolds, is_for, is_same, links_of, unsent_of}
 use Rattle.as2_links.specs.declared.link.Link.{Link}
 use Rattle.as2_links.specs.declared.table.LinkTable.{LinkTable}
 
@@ -46,12 +46,12 @@ unchanged old new at v here set h it =
     record { each = λ l. subst (λ (ls : List (Option Link)). PlaceHolds (slice_get ls l) (link_at l h)) (sym same) (it.each l); right = it.right }
 
 -- something happened at a place, and leaves that there
-happened : (old new : LinkTable) (at : ℕ) (v : Option Link) (x : LinkHappening) (h : LinkHappenings) → place_of x ≡ at → at < length (links_of old)
+happened : (old new : LinkTable) (at : ℕ) (v : Option Link) (x : LinkHappening) (h : LinkHappenings) → link_place x ≡ at → at < length (links_of old)
     → links_of new ≡ slice_set (links_of old) at v → PlaceHolds (Some v) (link_with x (link_at at h)) → IsRight x h → LinksStand old h
     → LinksStand new (x ∷ h)
 happened old new at v x h at_is within set here right it = record {
   each = λ l. subst (λ (ls : List (Option Link)). PlaceHolds (slice_get ls l) (link_at l (x ∷ h))) (sym set)
-      (placed (links_of old) at v (λ k o. PlaceHolds o (if place_of x == k then link_with x (link_at k h) else link_at k h)) within
+      (placed (links_of old) at v (λ k o. PlaceHolds o (if link_place x == k then link_with x (link_at k h) else link_at k h)) within
       (subst (λ (b : Bool). PlaceHolds (Some v) (if b then link_with x (link_at at h) else link_at at h))
       (sym (ap (λ (k : ℕ). k == at) at_is ∙ itself at)) here)
       (λ k ne. subst (λ (b : Bool). PlaceHolds (slice_get (links_of old) k) (if b then link_with x (link_at k h) else link_at k h))
@@ -93,7 +93,7 @@ not_linked table what h none it k =
         true≢false (sym (ap (λ (n : Next). is_same n what) (holds.what ∙ linked) ∙ same_is what) ∙ other (Some link) refl)
 
 pub opened : (old new : LinkTable) (at : ℕ) (what : Next) (job : Job) (link : Link) (h : LinkHappenings) → at < length (links_of old)
-    → links_of new ≡ slice_set (links_of old) at (Some link) → MayOpen old at what → Holds link (fresh what job) → LinksStand old h
+    → links_of new ≡ slice_set (links_of old) at (Some link) → MayOpen old at what → HoldsLink link (fresh what job) → LinksStand old h
     → LinksStand new (Begins at what job ∷ h)
 opened old new at what job link h within set may holds it =
     happened old new at (Some link) (Begins at what job) h refl within set holds
@@ -104,33 +104,33 @@ opened old new at what job link h within set may holds it =
 module _ (old new : LinkTable) (at : ℕ) (link : Link) (h : LinkHappenings) (within : at < length (links_of old))
     (here : slice_get (links_of old) at ≡ Some (Some link)) (it : LinksStand old h) where
   -- what is known of it
-  held : (o : Option LinkState) → PlaceHolds (Some (Some link)) o → (s : LinkState) × (o ≡ Some s) × Holds link s
+  held : (o : Option LinkState) → PlaceHolds (Some (Some link)) o → (s : LinkState) × (o ≡ Some s) × HoldsLink link s
   held None holds = absurd holds
   held (Some s) holds = (s, refl, holds)
 
-  known : (s : LinkState) × (link_at at h ≡ Some s) × Holds link s
+  known : (s : LinkState) × (link_at at h ≡ Some s) × HoldsLink link s
   known = held (link_at at h) (subst (λ (p : Option (Option Link)). PlaceHolds p (link_at at h)) here (it.each at))
 
   -- the whole request was written
-  is_whole : (s : LinkState) → Holds link s → unsent_of link ≡ [] → s.sent ≡ s.job.bytes
+  is_whole : (s : LinkState) → HoldsLink link s → unsent_of link ≡ [] → s.sent ≡ s.job.bytes
   is_whole s holds none =
       sym (append-nil s.sent) ∙ ap (λ (rest : List ℕ). s.sent ++ rest) (sym none) ∙ sym holds.sent ∙ ap (λ (j : Job). j.bytes) holds.job
 
   module _ (next : Link) (set : links_of new ≡ slice_set (links_of old) at (Some next)) where
-    goes_on : (x : LinkHappening) → place_of x ≡ at → PlaceHolds (Some (Some next)) (link_with x (Some known.0)) → IsRight x h → LinksStand new (x ∷ h)
+    goes_on : (x : LinkHappening) → link_place x ≡ at → PlaceHolds (Some (Some next)) (link_with x (Some known.0)) → IsRight x h → LinksStand new (x ∷ h)
     goes_on x at_is holds right =
         happened old new at (Some next) x h at_is within set
         (subst (λ (o : Option LinkState). PlaceHolds (Some (Some next)) (link_with x o)) (sym known.1) holds) right it
 
     pub heard : (piece : List ℕ) (is : Bool) → unsent_of link ≡ []
-        → (IsTrue is → (s : LinkState) → Holds link s → Holds next (record s { heard = s.heard ++ piece })) → (is ≡ false → next ≡ link)
+        → (IsTrue is → (s : LinkState) → HoldsLink link s → HoldsLink next (record s { heard = s.heard ++ piece })) → (is ≡ false → next ≡ link)
         → LinksStand new (if_so is (Hears at piece) ++ h)
     heard piece true none holds same =
         goes_on (Hears at piece) refl (holds refl known.0 known.2)
         (subst (λ (o : Option LinkState). IsOpenWith o (λ s. s.sent ≡ s.job.bytes)) (sym known.1) (is_whole known.0 known.2 none))
     heard piece false none holds same = unchanged old new at (Some link) here (set ∙ ap (λ (l : Link). slice_set (links_of old) at (Some l)) (same refl)) h it
 
-    pub cut : (is : Bool) → unsent_of link ≡ [] → (IsTrue is → (s : LinkState) → Holds link s → Holds next (record s { is_over = true }))
+    pub cut : (is : Bool) → unsent_of link ≡ [] → (IsTrue is → (s : LinkState) → HoldsLink link s → HoldsLink next (record s { is_over = true }))
         → (is ≡ false → next ≡ link) → LinksStand new (if_so is (Cuts at) ++ h)
     cut true none holds same =
         goes_on (Cuts at) refl (holds refl known.0 known.2)
@@ -139,7 +139,7 @@ module _ (old new : LinkTable) (at : ℕ) (link : Link) (h : LinkHappenings) (wi
 
     -- so many of the first bytes were written
     pub sent : (most : ℕ)
-        → ((s : LinkState) → Holds link s → Holds next (record s { sent = s.sent ++ take most (unsent_of link) }))
+        → ((s : LinkState) → HoldsLink link s → HoldsLink next (record s { sent = s.sent ++ take most (unsent_of link) }))
         → LinksStand new (Sends at (take most (unsent_of link)) ∷ h)
     sent most holds =
         goes_on (Sends at (take most (unsent_of link))) refl (holds known.0 known.2)
@@ -152,7 +152,7 @@ module _ (old new : LinkTable) (at : ℕ) (link : Link) (h : LinkHappenings) (wi
 
   -- it is closed
   pub ended : (what : Next) (got : TryAnswer) → links_of new ≡ slice_set (links_of old) at None → what ≡ link.what
-      → ((s : LinkState) → Holds link s → GetsBy s.is_over s.heard got) → LinksStand new (Ends at what got ∷ h)
+      → ((s : LinkState) → HoldsLink link s → GetsBy s.is_over s.heard got) → LinksStand new (Ends at what got ∷ h)
   ended what got set for gets =
       happened old new at None (Ends at what got) h refl within set refl
       (subst (λ (o : Option LinkState). IsOpenWith o (λ s. (s.what ≡ what) × GetsBy s.is_over s.heard got)) (sym known.1)

@@ -34,12 +34,12 @@ abbrev pub fresh : Next → Job → LinkState
 fresh what job = record { what = what; job = job; sent = []; heard = []; is_over = false }
 
 -- the place at which it happened
-abbrev pub place_of : LinkHappening → ℕ
-place_of (Begins l what job) = l
-place_of (Sends l piece) = l
-place_of (Hears l piece) = l
-place_of (Cuts l) = l
-place_of (Ends l what got) = l
+abbrev pub link_place : LinkHappening → ℕ
+link_place (Begins l what job) = l
+link_place (Sends l piece) = l
+link_place (Hears l piece) = l
+link_place (Cuts l) = l
+link_place (Ends l what got) = l
 
 -- what the link there is after it
 abbrev pub link_with : LinkHappening → Option LinkState → Option LinkState
@@ -57,7 +57,7 @@ if_so false x = []
 -- the link at that place after all that happened, if one is open there
 abbrev pub link_at : ℕ → LinkHappenings → Option LinkState
 link_at l [] = None
-link_at l (x ∷ h) = if place_of x == l then link_with x (link_at l h) else link_at l h
+link_at l (x ∷ h) = if link_place x == l then link_with x (link_at l h) else link_at l h
 
 -- there is a link, and that holds of it
 abbrev pub IsOpenWith : Option LinkState → (LinkState → Type 0) → Type 0

@@ -21,12 +21,12 @@ HoldsAnswer (Awaited parser) heard is_over = HasKept parser heard × (is_over �
 HoldsAnswer (Got answer) heard is_over = GetsBy is_over heard answer
 
 -- it is known what the try got
-abbrev pub is_answered : Answer → Bool
-is_answered (Awaited parser) = false
-is_answered (Got it) = true
+abbrev pub is_answer_known : Answer → Bool
+is_answer_known (Awaited parser) = false
+is_answer_known (Got it) = true
 
 -- what is kept of a link is what went over it
-pub record Holds (link : Link) (s : LinkState) : Type 0 where
+pub record HoldsLink (link : Link) (s : LinkState) : Type 0 where
   pub what : link.what ≡ s.what
   pub job : link.job ≡ s.job
   pub sent : link.job.bytes ≡ s.sent ++ unsent_of link
@@ -40,7 +40,7 @@ abbrev pub PlaceHolds : Option (Option Link) → Option LinkState → Type 0
 PlaceHolds None o = o ≡ None
 PlaceHolds (Some None) o = o ≡ None
 PlaceHolds (Some (Some link)) None = ⊥
-PlaceHolds (Some (Some link)) (Some s) = Holds link s
+PlaceHolds (Some (Some link)) (Some s) = HoldsLink link s
 
 -- the link at each place is what happened there, and all that happened was right
 pub record LinksStand (table : LinkTable) (h : LinkHappenings) : Type 0 where

@@ -3,7 +3,7 @@ ghost use Rattle.std.specs.Prelude.{◌≡◌, ◌≤◌, ◌++◌, ℕ, List, l
 ghost use Rattle.as2_exchange.specs.declared.event.TryAnswer.TheVariants as TryAnswer;
 ghost use Rattle.as2_messages.specs.AnswerPieces.{HasKept};
 ghost use Rattle.as2_links.specs.Happenings.{GetsBy, LinkState, fresh};
-ghost use Rattle.as2_links.specs.Links.{Holds, HoldsAnswer, is_answered, unsent_of};
+ghost use Rattle.as2_links.specs.Links.{HoldsLink, HoldsAnswer, is_answer_known, unsent_of};
 
 use as2_exchange::{Job, Next, TryAnswer};
 use as2_messages::{AnswerParser, ParsedAnswer, ReceivedAnswer};
@@ -73,7 +73,7 @@ fn at_end(parser: AnswerParser) -> Answer
 impl Link {
     /// For a try of that, whose request is to be written. Nothing was written yet.
     pub(crate) fn new(alloc: Global, what: Next, job: Job) -> Link
-        ensures holds { Holds result (fresh what job) }
+        ensures holds { HoldsLink result (fresh what job) }
         ensures what { result.what ≡ what }
     {
         Link {
@@ -116,8 +116,8 @@ impl Link {
     /// So many of the first of those bytes were written.
     pub(crate) fn sent(&mut self, count: usize)
         requires within { count ≤ length (unsent_of self.old) }
-        ensures holds { (s : LinkState) → Holds self.old s
-            → Holds self.new (record s { sent = s.sent ++ take count (unsent_of self.old) }) }
+        ensures holds { (s : LinkState) → HoldsLink self.old s
+            → HoldsLink self.new (record s { sent = s.sent ++ take count (unsent_of self.old) }) }
         ensures what { self.new.what ≡ self.old.what }
     {
         self.sent = self.sent.min(self.job.bytes.as_slice().len()) + count;
@@ -125,15 +125,15 @@ impl Link {
 
     /// A whole answer came, or it is known that none can.
     pub fn is_answered(&self) -> bool
-        ensures { result ≡ is_answered self.now.answer }
+        ensures { result ≡ is_answer_known self.now.answer }
     {
         matches!(self.answer, Answer::Got(_))
     }
 
     /// Takes bytes that came. False: a whole answer came before, or none can come, and nothing changes.
     pub(crate) fn hear(&mut self, piece: &[u8]) -> bool
-        ensures holds { IsTrue result → (s : LinkState) → Holds self.old s
-            → Holds self.new (record s { heard = s.heard ++ piece.now }) }
+        ensures holds { IsTrue result → (s : LinkState) → HoldsLink self.old s
+            → HoldsLink self.new (record s { heard = s.heard ++ piece.now }) }
         ensures same { result ≡ false → self.new ≡ self.old }
     {
         match mem::replace(&mut self.answer, Answer::Got(TryAnswer::NoAnswer)) {
@@ -150,7 +150,7 @@ impl Link {
 
     /// Takes that no more bytes come. False: a whole answer came before, or none can come, and nothing changes.
     pub(crate) fn cut(&mut self) -> bool
-        ensures holds { IsTrue result → (s : LinkState) → Holds self.old s → Holds self.new (record s { is_over = true }) }
+        ensures holds { IsTrue result → (s : LinkState) → HoldsLink self.old s → HoldsLink self.new (record s { is_over = true }) }
         ensures same { result ≡ false → self.new ≡ self.old }
     {
         match mem::replace(&mut self.answer, Answer::Got(TryAnswer::NoAnswer)) {
@@ -168,7 +168,7 @@ impl Link {
     /// The link has ended. Where no whole answer came, the try got none.
     pub(crate) fn end(self) -> EndedLink
         ensures what { result.what ≡ self.what }
-        ensures got { (s : LinkState) → Holds self s → GetsBy s.is_over s.heard result.got }
+        ensures got { (s : LinkState) → HoldsLink self s → GetsBy s.is_over s.heard result.got }
     {
         let Link { what, answer, .. } = self;
         let got = match answer {

@@ -3,7 +3,7 @@ use Rattle.std.specs.Vec.{with_item}
 use Rattle.std.proofs.Math.Nat.{min_comm}
 use Rattle.std.proofs.lemmas.List.{take_min}
 use Rattle.as2_links.specs.Happenings.{Sends}
-use Rattle.as2_links.specs.Links.{Holds, LinksStand, links_of, unsent_at, unsent_of}
+use Rattle.as2_links.specs.Links.{HoldsLink, LinksStand, links_of, unsent_at, unsent_of}
 use Rattle.as2_links.specs.declared.link.Link.{Link}
 use Rattle.as2_links.specs.declared.table.LinkTable.{LinkTable}
 use Rattle.as2_links.proofs.Standing.{sent, there, unchanged}
@@ -34,5 +34,5 @@ returns c = record {
       let new : LinkTable = record table { links = with_item table.links at (Some c.sent.new.self) } in
       λ h it. subst (λ (u : List ℕ). LinksStand new (Sends at (take c.args.most u) ∷ h)) (sym (ap unsent_at at_place))
       (sent table new at link h within at_place it c.sent.new.self refl c.args.most (λ s holds.
-      subst (λ (u : List ℕ). Holds c.sent.new.self (record s { sent = s.sent ++ u })) count (c.sent.ensures.holds s holds)));
+      subst (λ (u : List ℕ). HoldsLink c.sent.new.self (record s { sent = s.sent ++ u })) count (c.sent.ensures.holds s holds)));
 }
