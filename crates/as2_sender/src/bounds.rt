@@ -12,6 +12,9 @@ pub(crate) const LINKS_FOR_RECEIPTS: usize = 32;
 /// Numbers that are looked at in one turn.
 pub(crate) const LOOKS: usize = 32;
 
+/// How many times as long as a sweep took it rests before the next one.
+pub(crate) const SWEEP_SHARE: u64 = 9;
+
 /// Reads and writes of one link in one turn.
 pub(crate) const STEPS: usize = 8;
 

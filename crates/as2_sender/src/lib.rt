@@ -9,6 +9,7 @@ mod names;
 mod notes;
 mod passed;
 mod sender;
+mod sweep;
 
 pub use hosts::Hosts;
 pub use line::LinkWaits;

@@ -10,6 +10,7 @@ use crate::line::{Dialled, Did, Line, LinkWaits, is_wanting};
 use crate::names::{Found, Names};
 use crate::notes::{note_barred, note_ended, note_failed, note_refused};
 use crate::passed::Passed;
+use crate::sweep::Sweep;
 use as2_exchange::Next;
 use as2_front::Log;
 use as2_links::LinkTable;
@@ -56,10 +57,7 @@ pub struct Sender {
     passed: Passed,
     /// What may have a link again that waited for one.
     woken: Option<Next>,
-    last_receipt: u64,
-    last_document: u64,
-    /// All that is due was looked at.
-    is_through: bool,
+    sweep: Sweep,
     /// No try begins any more.
     is_ending: bool,
     buffer: Vec<u8>,
@@ -81,9 +79,7 @@ impl Sender {
             lines,
             passed: Passed::new(alloc),
             woken: None,
-            last_receipt: 0,
-            last_document: 0,
-            is_through: false,
+            sweep: Sweep::new(),
             is_ending: false,
             buffer: Vec::from_elem(alloc, 0, PIECE)?,
         })
@@ -99,7 +95,7 @@ impl Sender {
         for line in self.lines.iter_mut() {
             *line = None;
         }
-        self.is_through = false;
+        self.sweep.wake();
     }
 
     /// No try begins any more.
@@ -114,7 +110,7 @@ impl Sender {
 
     /// Something more may be due than was looked at.
     pub fn wake(&mut self) {
-        self.is_through = false;
+        self.sweep.wake();
     }
 
     /// Something is to be done without a wait.
@@ -128,7 +124,7 @@ impl Sender {
 
     /// A try may begin, where something is due.
     fn may_begin(&self) -> bool {
-        !self.is_ending && !self.is_through && self.lines.iter().any(|line| line.is_none())
+        !self.is_ending && !self.sweep.is_through && self.lines.iter().any(|line| line.is_none())
     }
 
     /// Notes what the system says of the socket at a place.
@@ -215,7 +211,7 @@ impl Sender {
 
     /// The socket at a place is closed. What waited for a link to its host may have one.
     fn close(&mut self, at: usize) {
-        self.is_through = false;
+        self.sweep.wake();
         let Some(seat) = self.lines.get_mut(at) else {
             return;
         };
@@ -251,7 +247,7 @@ impl Sender {
                 return;
             }
             let Some(what) = self.next_due(live, occasion.moment) else {
-                self.is_through = true;
+                self.sweep.end(occasion.now);
                 return;
             };
             self.begin_one(live, what, occasion);
@@ -265,14 +261,25 @@ impl Sender {
         if let Some(what) = self.woken.take() {
             return Some(what);
         }
-        let last = Some(Next::Receipt(self.last_receipt));
+        if self.sweep.is_past_receipts {
+            return self.next_document(live, moment);
+        }
+        let last = Some(Next::Receipt(self.sweep.receipt));
         if let Ok(Some(Next::Receipt(number))) = live.next_behind(moment, last) {
-            self.last_receipt = number;
+            self.sweep.receipt = number;
             return Some(Next::Receipt(number));
         }
-        let last = Some(Next::Document(self.last_document));
+        self.sweep.is_past_receipts = true;
+        self.next_document(live, moment)
+    }
+
+    /// The document that is due and wasn't looked at yet.
+    fn next_document<K: Records>(&mut self, live: &mut Live<'_, K>, moment: Moment) -> Option<Next>
+        ensures lives { LivesOn K.shows live.old live.new }
+    {
+        let last = Some(Next::Document(self.sweep.document));
         if let Ok(Some(Next::Document(number))) = live.next_behind(moment, last) {
-            self.last_document = number;
+            self.sweep.document = number;
             return Some(Next::Document(number));
         }
         None
@@ -397,7 +404,7 @@ impl Sender {
             None => Dialled::Nowhere,
         };
         if matches!(dialled, Dialled::Wanting) {
-            self.is_through = true;
+            self.sweep.end(occasion.now);
             return;
         }
         match live.begin_try(at, what, occasion.moment) {
@@ -410,7 +417,7 @@ impl Sender {
             }
             TryBegun::Failed(fault) => {
                 note_failed(occasion.log, self.rt.alloc(), what, fault);
-                self.is_through = true;
+                self.sweep.end(occasion.now);
             }
         }
     }
@@ -474,9 +481,7 @@ impl Sender {
         ensures lives { LivesOn K.shows live.old live.new }
     {
         self.passed.sweep(occasion.now);
-        self.last_receipt = 0;
-        self.last_document = 0;
-        self.is_through = false;
+        self.sweep.begin_anew(occasion.now);
         for at in 0..LINKS {
             self.look_at(live, at, occasion);
         }
