@@ -30,6 +30,9 @@ pub(crate) const REFUSED: u64 = 60_000;
 /// How long what waits for a link is passed over where none ends before, in milliseconds.
 pub(crate) const CROWDED: u64 = 30_000;
 
+/// .. for a receipt, where it waits for a link that any receipt has.
+pub(crate) const RECEIPTS_CROWDED: u64 = 1_000;
+
 /// How long an address that was looked up is gone by, in milliseconds.
 pub(crate) const NAMED: u64 = 60_000;
 

@@ -3,7 +3,8 @@ ghost use Rattle.as2_live.specs.Living.{LivesOn};
 
 use crate::aims::{Aim, authority_in, is_receipt};
 use crate::bounds::{
-    CROWDED, LINKS, LINKS_FOR_RECEIPTS, LINKS_OF_HOST, LOOKS, PIECE, REFUSED, STEPS,
+    CROWDED, LINKS, LINKS_FOR_RECEIPTS, LINKS_OF_HOST, LOOKS, PIECE, RECEIPTS_CROWDED, REFUSED,
+    STEPS,
 };
 use crate::hosts::Hosts;
 use crate::line::{Dialled, Did, Line, LinkWaits, is_wanting};
@@ -167,12 +168,13 @@ impl Sender {
         let Some(Some(line)) = self.lines.get_mut(at) else {
             return Did::Nothing;
         };
+        let Some(link) = links.at(at) else {
+            line.is_marked = false;
+            return Did::Nothing;
+        };
         if !line.is_marked {
             return Did::Nothing;
         }
-        let Some(link) = links.at(at) else {
-            return Did::Nothing;
-        };
         let did = line.go_on(link, &mut self.buffer, now);
         line.is_marked = !matches!(did, Did::Nothing);
         did
@@ -352,11 +354,15 @@ impl Sender {
         }
     }
 
-    /// Passes it over until a link to its host has ended.
+    /// Passes it over until a link to its host has ended, or for a while. A receipt that waits for any of the others waits for a short one.
     fn wait_for_link(&mut self, what: Next, authority: &str, now: u64) {
+        let wait = if self.links_to(authority) >= LINKS_OF_HOST {
+            CROWDED
+        } else {
+            RECEIPTS_CROWDED
+        };
         if let Ok(host) = String::from_str(self.rt.alloc(), authority) {
-            self.passed
-                .add(what, now.saturating_add(CROWDED), Some(host));
+            self.passed.add(what, now.saturating_add(wait), Some(host));
         }
     }
 
