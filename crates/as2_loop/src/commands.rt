@@ -6,7 +6,7 @@ ghost use Rattle.clap.specs.declared.error.kind.ErrorKind.TheVariants.{OutOfMemo
 ghost use Rattle.as2_loop.specs.Commands.{IsFor, RunsLendable, RunsWords};
 ghost use Rattle.as2_loop.specs.Running.{RunsOn};
 
-use crate::marks::{FileMark, file_length};
+use crate::marks::FileMark;
 use as2_bounded::{Bounded, room_of};
 use as2_commands::{Command, Question, Submission, Task, options_in};
 use as2_control::{Demand, Outcome};
@@ -30,7 +30,6 @@ pub(crate) const DONE: u8 = 0;
 /// What a station runs by.
 #[derive(Drop)]
 pub(crate) struct Basis {
-    pub rt: HostRuntime,
     pub alloc: Global,
     /// What is agreed, and the bytes of its file.
     pub agreed: AgreedText,
@@ -163,16 +162,6 @@ pub(crate) fn answering<'a, R: Records>(
     Live::new(hub, desk.noting(&basis.log), links)
 }
 
-/// The bytes of the store's files without its log: what they have where no station runs, since a clean end takes the log away.
-fn size_of<O: OpenStores>(basis: &Basis, stores: &O) -> u64 {
-    let path = basis.store.as_str();
-    let log = match format!(in basis.alloc; "{path}-wal") {
-        Ok(path) => file_length(&basis.rt, path.as_str()),
-        Err(_) => 0,
-    };
-    stores.size(path).saturating_sub(log)
-}
-
 /// The records under the limit of a station.
 pub(crate) fn bounded<R: Records, O: OpenStores>(
     basis: &Basis,
@@ -181,7 +170,10 @@ pub(crate) fn bounded<R: Records, O: OpenStores>(
 ) -> Bounded<R>
     ensures { result.records ≡ records }
 {
-    Bounded::new(records, room_of(basis.limit, size_of(basis, stores)))
+    Bounded::new(
+        records,
+        room_of(basis.limit, stores.size(basis.store.as_str())),
+    )
 }
 
 /// What came of a demand, and the station.
@@ -206,7 +198,7 @@ fn run_words<'a, R: Records + Drop, O: OpenStores>(
 {
     let (hub, desk, links) = live.into_parts();
     let records = desk.into_station().into_records().into_records();
-    let size = size_of(basis, stores);
+    let size = stores.size(basis.store.as_str());
     let (outcome, records) = run_forwarded(basis.alloc, given, records, size);
     let Some(records) = records else {
         return (outcome, None);

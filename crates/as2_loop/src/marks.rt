@@ -20,11 +20,3 @@ impl FileMark {
         })
     }
 }
-
-/// How many bytes the file at that path has; 0 where none stands there.
-pub(crate) fn file_length(rt: &HostRuntime, path: &str) -> u64 {
-    match fs::metadata(rt, path) {
-        Ok(found) => found.len(),
-        Err(_) => 0,
-    }
-}

@@ -158,7 +158,6 @@ fn held_of(
     let shell = shell_of(rt, store, run.moment, wanted)?;
     Ok(Held {
         basis: Basis {
-            rt: *rt,
             alloc,
             agreed,
             digest,
