@@ -43,7 +43,7 @@ _as2desk_options() {
             ;;
         run)
             required='--listen'
-            options='--listen --control --timeout --idle --help'
+            options='--listen --control --timeout --idle --receipts-to --help'
             ;;
         *) return 1 ;;
     esac
@@ -61,7 +61,7 @@ _as2desk_values() {
             ;;
         :--store-limit | :--first | :--moment | evidence:1 | submit:--from | submit:--to | send:--timeout | \
             resend:1 | show:1 | fetch:1 | serve:--listen | serve:--count | serve:--timeout | serve:--idle | \
-            run:--listen | run:--timeout | run:--idle)
+            run:--listen | run:--timeout | run:--idle | run:--receipts-to)
             values=''
             ;;
         verify:--format | list:--format | outstanding:--format | show:--format)

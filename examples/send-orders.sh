@@ -1,9 +1,10 @@
 #!/bin/sh
-# A round of sending: hands in each file of a folder (by hand-in.sh, beside this script), sends what is due, and moves each file whose
-# document has come to a good end from FOLDER/sent to FOLDER/done. A timer runs it. Of each other file that somebody has to look at it prints a
-# line, in each round until the document is settled after all or the file is taken away: `failed` (state E), `warned` (W, by a receipt that
-# doesn't confirm the bytes), `unknown` (the store has no such number), `refused` (it was never taken, and lies in FOLDER/refused).
-# Beside a station that runs nothing is sent: a round has to stop it. With ORDERS_SEND=no sending isn't tried at all.
+# A round of orders: hands in each file of a folder (by hand-in.sh, beside this script), and moves each file whose document has come to a
+# good end from FOLDER/sent to FOLDER/done. A timer runs it. Of each other file that somebody has to look at it prints a line, in each round
+# until the document is settled after all or the file is taken away: `failed` (state E), `warned` (W, by a receipt that doesn't confirm the
+# bytes), `unknown` (the store has no such number), `refused` (it was never taken, and lies in FOLDER/refused).
+# A station that runs sends by itself: what was handed in is done in a later round. Where none runs the script sends what is due. With
+# ORDERS_SEND=no it doesn't.
 # The status: 0 all is well; 1 somebody has to look; else the station wasn't reached, and the next round goes on.
 # send-orders.sh AGREEMENTS STORE ORGANIZATION PARTNER FOLDER [PROGRAM]
 set -eu
@@ -18,10 +19,12 @@ if [ "${ORDERS_SEND:-yes}" != no ]; then
     station tick > "$folder/.said"
     sending=0
     station send --timeout 5 > "$folder/.said" 2>&1 || sending=$?
-    cat "$folder/.said" >&2
-    [ "$sending" -le 1 ] || exit "$sending"
-    # (any other refusal keeps all from being sent that is due behind it)
-    [ "$sending" -eq 0 ] || grep -qx 'refused: StationRuns' "$folder/.said" || status=1
+    # (the station sends; any other refusal keeps all from being sent that is due behind it)
+    if [ "$sending" -ne 1 ] || ! grep -qx 'refused: StationRuns' "$folder/.said"; then
+        cat "$folder/.said" >&2
+        [ "$sending" -le 1 ] || exit "$sending"
+        [ "$sending" -eq 0 ] || status=1
+    fi
 fi
 
 mkdir -p "$folder/done"

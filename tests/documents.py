@@ -4,7 +4,7 @@ A block that begins with ```console has commands behind `$ `, each with what it 
 The blocks of a document are run in the order in which they stand there, each in one shell, in an empty folder that has the top of
 the repository in it as links. `...` within a shown line stands for any text. What stands behind `console`:
 
-    background   the block goes on beside the next one, and is compared when that has ended
+    background   the block goes on beside those behind it, and is compared when all of the document have ended
     nginx        it is skipped where nginx isn't installed
     systemd      it is skipped where systemd-socket-activate isn't installed
 
@@ -106,7 +106,7 @@ class Block:
 
 def run(document, folder):
     """Runs the blocks of a document, and tells whether each prints what is shown."""
-    good, beside = True, None
+    good, beside = True, []
     with open(os.path.join(TOP, document), encoding="utf-8") as file:
         text = file.read()
     for info, lines in blocks(text):
@@ -122,12 +122,11 @@ def run(document, folder):
         block = Block(folder, lines)
         if "background" in info:
             block.has_begun()
-            beside = block
+            beside.append(block)
             continue
         good = block.compare(document) and good
-        if beside:
-            good = beside.compare(document) and good
-            beside = None
+    for block in beside:
+        good = block.compare(document) and good
     return good
 
 

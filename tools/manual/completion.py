@@ -29,6 +29,7 @@ VALUES = {
     "FILE": lambda _: FILES, "PATH": lambda _: FILES, "FOLDER": lambda _: FOLDERS,
     "FORMAT": quoted, "KIND": quoted, "S": letters,
     "N": anything, "SECONDS": anything, "MIB": anything, "ADDRESS": anything, "NAME": anything,
+    "HOST[:PORT],..": anything,
 }
 
 HEAD = r"""# The completion of as2desk for bash: source this file, or have bash-completion find it as `as2desk`.

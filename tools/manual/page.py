@@ -110,9 +110,16 @@ class Page:
             self.item(names + (f" {italic(it.value)}" if it.value else ""), it.text + ending)
 
     def examples(self, examples):
+        for title, lines in examples:
+            if title:
+                self.add(".PP")
+                self.text(title)
+            self.shell(lines)
+
+    def shell(self, lines):
         """Lines of a shell. One that is too long is broken before its command."""
         self.add(".PP", ".RS 4", ".EX")
-        for line in examples:
+        for line in lines:
             words = line.split()
             at = next(i for i, word in enumerate(words) if word in self.names)
             broken = [" ".join([*words[:at], "\\"]), " ".join(["   ", *words[at:]])]

@@ -4,17 +4,19 @@ import subprocess
 from collections import namedtuple
 
 NAME = "as2desk"
-OPTION = re.compile(r"  (?:(-[A-Za-z]), |    )(--[a-z][a-z-]*)(?: <([A-Z]+)>)?  +(\S.*)")
+OPTION = re.compile(r"  (?:(-[A-Za-z]), |    )(--[a-z][a-z-]*)(?: <([A-Z][^ >]*)>)?  +(\S.*)")
 ARGUMENT = re.compile(r"  <([A-Z]+)>  +(\S.*)")
 COMMAND = re.compile(r"  ([a-z]+)  +(\S.*)")
 EXAMPLE = re.compile(rf"  ({NAME} \S.*)")
+TITLE = re.compile(r"[A-Z][^:]* [^:]*:")
 REQUIRED = re.compile(r"(--[a-z][a-z-]*) <[A-Z]+>")
 STATUS = re.compile(r"([0-9]) (\S.*)")
 STATUSES = "Exit status: "
 
 Option = namedtuple("Option", "short long value text")  # a flag has no value
 Argument = namedtuple("Argument", "value text")
-# `required` are the options that must be given, `texts` the paragraphs below the options, `whole` is all that is there.
+# `required` are the options that must be given, `texts` the paragraphs below the options, `examples` the lines of each example behind what
+# it is of, `whole` is all that is there.
 Command = namedtuple("Command", "name about required options arguments texts examples whole")
 Program = namedtuple("Program", "about required options commands texts statuses examples whole")
 
@@ -77,10 +79,20 @@ class Help:
         """The paragraphs, the examples, and all of both as it stands there."""
         whole = "\n\n".join("\n".join(block) for block in self.blocks)
         texts = []
-        while len(self.blocks) > 1:
+        while len(self.blocks) > 1 and not self.begins("Example:"):
             texts.append(self.paragraph())
         title = "Example:" if self.begins("Example:") else "Examples:"
-        return texts, [row[0] for row in self.rows(title, EXAMPLE)], whole
+        examples = [("", self.example(title))]
+        while self.blocks:
+            title = self.blocks[0][0]
+            if not TITLE.fullmatch(title):
+                self.refuse(f"not understood: {title!r}")
+            examples.append((title, self.example(title)))
+        return texts, examples, whole
+
+    def example(self, title):
+        """The lines of the next block, which has that title."""
+        return [row[0] for row in self.rows(title, EXAMPLE)]
 
     def paragraph(self):
         """The next paragraph, as one line."""
