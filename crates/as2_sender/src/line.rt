@@ -188,9 +188,14 @@ impl Line {
         }
     }
 
+    /// How long it has stood by that time, in milliseconds.
+    pub(crate) fn stood(&self, now: u64) -> u64 {
+        now.saturating_sub(self.began)
+    }
+
     /// Why it is over by that time, where it is.
     pub(crate) fn fault_by(&self, waits: LinkWaits, now: u64) -> Option<LinkFault> {
-        let stood = now.saturating_sub(self.began);
+        let stood = self.stood(now);
         if self.phase == Phase::Connecting && stood >= CONNECT.min(waits.wait) {
             return Some(LinkFault::NoConnection);
         }

@@ -56,9 +56,11 @@ pub struct Sender {
     names: Names,
     lines: Vec<Option<Line>>,
     passed: Passed,
-    /// What may have a link again that waited for one.
-    woken: Option<Next>,
+    /// What may have a link again that waited for one, the one that waited longest first.
+    woken: Vec<Next>,
     sweep: Sweep,
+    /// The records failed as a try was to begin, and that was noted.
+    has_failed: bool,
     /// No try begins any more.
     is_ending: bool,
     buffer: Vec<u8>,
@@ -79,8 +81,9 @@ impl Sender {
             names: Names::new(rt),
             lines,
             passed: Passed::new(alloc),
-            woken: None,
+            woken: Vec::new(alloc),
             sweep: Sweep::new(),
+            has_failed: false,
             is_ending: false,
             buffer: Vec::from_elem(alloc, 0, PIECE)?,
         })
@@ -218,8 +221,8 @@ impl Sender {
             return;
         };
         if let Some(line) = seat.take() {
-            if self.woken.is_none() {
-                self.woken = self.passed.take_waiting(line.host.as_str());
+            if let Some(what) = self.passed.take_waiting(line.host.as_str()) {
+                let _ = self.woken.push(what);
             }
         }
     }
@@ -256,11 +259,23 @@ impl Sender {
         }
     }
 
+    /// What has waited longest for a link, where none was opened for it meanwhile.
+    fn take_woken(&mut self, links: &LinkTable) -> Option<Next> {
+        if self.woken.is_empty() {
+            return None;
+        }
+        let what = self.woken.remove(0);
+        if links.is_open_for(what) {
+            return None;
+        }
+        Some(what)
+    }
+
     /// What is due and wasn't looked at yet: receipts, and then documents.
     fn next_due<K: Records>(&mut self, live: &mut Live<'_, K>, moment: Moment) -> Option<Next>
         ensures lives { LivesOn K.shows live.old live.new }
     {
-        if let Some(what) = self.woken.take() {
+        if let Some(what) = self.take_woken(live.links()) {
             return Some(what);
         }
         if self.sweep.is_past_receipts {
@@ -295,7 +310,7 @@ impl Sender {
             return;
         }
         if let Some(at) = live.links().place_for(what) {
-            let fault = LinkFault::Slow(self.waits.whole / 1_000);
+            let fault = self.fault_at(at, occasion.now);
             self.finish(live, at, fault, occasion);
             return;
         }
@@ -305,6 +320,14 @@ impl Sender {
         let authority = authority_in(&address);
         let aim = self.aim(what, authority, occasion.now);
         self.begin_aimed(live, what, aim, authority, occasion);
+    }
+
+    /// Why a link is closed whose number is due again: it brought no whole answer for so long.
+    fn fault_at(&self, at: usize, now: u64) -> LinkFault {
+        match self.lines.get(at) {
+            Some(Some(line)) => LinkFault::Slow(line.stood(now) / 1_000),
+            _ => LinkFault::NoAnswer,
+        }
     }
 
     /// How many links go to that host and port.
@@ -415,14 +438,20 @@ impl Sender {
         }
         match live.begin_try(at, what, occasion.moment) {
             TryBegun::NoPlace => {}
-            TryBegun::Begun => self.seat(live, at, dialled, is_receipt(what), occasion),
+            TryBegun::Begun => {
+                self.has_failed = false;
+                self.seat(live, at, dialled, is_receipt(what), occasion);
+            }
             TryBegun::Refused(reason) => {
                 note_refused(occasion.log, self.rt.alloc(), what, reason);
                 let until = occasion.now.saturating_add(REFUSED);
                 self.passed.add(what, until, None);
             }
             TryBegun::Failed(fault) => {
-                note_failed(occasion.log, self.rt.alloc(), what, fault);
+                if !self.has_failed {
+                    note_failed(occasion.log, self.rt.alloc(), what, fault);
+                }
+                self.has_failed = true;
                 self.sweep.end(occasion.now);
             }
         }
