@@ -14,11 +14,20 @@
     stop       `stop`, with slow requests under way too; other agreements; what is refused while a station runs
     lines      what it says on standard error, also where nobody reads it
     memory     some minutes of load, behind which it has no more memory
+    sending    documents to four partners: one hangs, one refuses, one answers a byte a second, one posts its receipts half an hour later
+    sending-kills  `kill -9` while it sends: no document is lost or tried too often, and all are settled afterwards
+    silent     silent addresses and a partner that hangs: an honest document goes out beside them
+    links      documents that wait for one partner: as many links to it as may be are at work
+    gone       documents of a partner who isn't in the agreements any more: those behind go out, and a line a minute
+    receipts-to  `--receipts-to`: a receipt goes to no other address
+    halts      `stop` while links are open; the next station tries again what was under way
+    latency    from `submit` to the first byte at the partner
     replies    the requests of corpus/, of hostile clients and mutated ones, to `run` and to `serve`: the same replies; curl and http.client
 
 Without a CASE all are tried. Each prints a line, and one before it for each thing that isn't as wanted; the status is 1 where there is one.
 The program is ./as2desk, or the file that --program names. The counts of the options are those of a whole trial, which takes some 15
-minutes; `--minutes 20` has the load of `memory` take 20. With a slow program take small counts, and greater `--slack` and `--patience`.
+minutes, and those that send as long again; `--minutes 20` has the load of `memory` take 20. With a slow program take small counts, and
+greater `--slack` and `--patience`.
 """
 import argparse
 import os
@@ -31,12 +40,14 @@ HERE = pathlib.Path(__file__).resolve().parent
 sys.path[:0] = [str(HERE / "live"), str(HERE / "hostile")]
 sys.dont_write_bytecode = True
 import asking
+import cutting
 import doors
 import killing
 import lasting
 import many
 import replies
 import running
+import sending
 import slow
 import stopping
 from station import STARTER, Differences
@@ -44,7 +55,8 @@ from station import STARTER, Differences
 CASES = {
     "crowd": many.crowd, "slow": slow.slow, "greedy": slow.greedy, "broken": many.broken, "full": many.full, "kills": killing.kills,
     "commands": asking.commands, "two": doors.two, "control": doors.control, "stop": stopping.stop, "lines": stopping.lines,
-    "memory": lasting.memory, "replies": replies.replies,
+    "memory": lasting.memory, "replies": replies.replies, "sending": sending.sending, "sending-kills": cutting.sending_kills, "silent": sending.silent,
+    "links": sending.links, "gone": sending.gone, "receipts-to": sending.receipts_to, "halts": sending.halts, "latency": sending.latency,
 }
 
 
@@ -60,9 +72,14 @@ def words():
     asked.add_argument("--rounds", type=int, default=3, help="of `slow`, each without slow peers and with them")
     asked.add_argument("--seconds", type=float, default=3, help="that honest posters are looked at in a round")
     asked.add_argument("--turns", type=int, default=50, help="of `broken`, `greedy` and `control`")
-    asked.add_argument("--kills", type=int, default=200)
+    asked.add_argument("--kills", type=int, default=200, help="of `kills` and of `sending-kills`")
     asked.add_argument("--minutes", type=float, default=1, help="of `memory`; 20 are the full trial")
     asked.add_argument("--mutated", type=int, default=3000, help="mutated requests of `replies`")
+    asked.add_argument("--documents", type=int, default=5000, help="of `sending`")
+    asked.add_argument("--waiting", type=int, default=1500, help="documents of `silent` and `gone` for a partner that hangs")
+    asked.add_argument("--watch", type=float, default=65, help="seconds that `gone` looks on")
+    asked.add_argument("--latencies", type=int, default=300, help="documents of `latency`")
+    asked.add_argument("--milliseconds", type=float, default=50, help="the most that one of a hundred of them may not pass")
     asked.add_argument("--seed", type=int, default=1)
     asked.add_argument("--slack", type=float, default=3, help="seconds that a machine under load may add to any wait")
     asked.add_argument("--patience", type=float, default=60, help="seconds that anything is waited for")

@@ -17,7 +17,7 @@ class Running:
     def __init__(self, desk, *words, moment=1000, waits=True):
         self.desk, self.said = desk, desk.path("said.txt")
         line = desk.words("run", "--listen", "127.0.0.1:0", *words, moment=moment)
-        if moment is None:
+        if moment is None and "--moment" in line:
             at = line.index("--moment")
             del line[at:at + 2]
         with open(self.said, "wb") as said, open(desk.path("told.txt"), "wb") as told:
