@@ -217,10 +217,9 @@ impl Shell {
             return 0;
         }
         let look = self.looked.saturating_add(LOOK).saturating_sub(now);
-        match self.door.wait(now) {
-            Some(wait) => look.min(wait),
-            None => look,
-        }
+        let end = self.end.unwrap_or(u64::MAX).saturating_sub(now);
+        let door = self.door.wait(now).unwrap_or(u64::MAX);
+        look.min(end).min(door)
     }
 
     /// Waits until something happens. A wait that was interrupted is begun anew, so that what came is read before any time is over.

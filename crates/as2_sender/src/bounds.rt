@@ -45,5 +45,11 @@ pub(crate) const SLOW: u64 = 1_000;
 /// How long no other name that came in a post is looked up, in milliseconds.
 pub(crate) const BETWEEN: u64 = 1_000;
 
-/// Numbers that are passed over, and names that are kept, at most.
+/// Numbers that are passed over, at most.
+pub(crate) const PASSED: usize = 8_192;
+
+/// .. that wait for a link to one host and port.
+pub(crate) const PASSED_OF_HOST: usize = 2_048;
+
+/// Names that are kept, at most.
 pub(crate) const KEPT: usize = 1_024;
