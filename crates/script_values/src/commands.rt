@@ -91,8 +91,9 @@ fn say_operating(answer: &mut Answer, given: &Operating<'_>) {
     }
     say_waits(answer, given.waits);
     if let Some(hosts) = given.receipts_to {
-        answer.say(", receipts to ");
+        answer.say("receipts to ");
         answer.say(hosts);
+        answer.say(", ");
     }
     say_moment(answer, given.moment);
 }
