@@ -1,4 +1,4 @@
-"""The measuring part of live.sh: python3 live.py PEER AGREEMENTS FOLDER [OPTIONS]."""
+"""The measuring part of live.sh: python3 live.py PEER POSTERS AGREEMENTS FOLDER [OPTIONS]."""
 import argparse
 import os
 import pathlib
@@ -73,15 +73,15 @@ def read(path):
         return file.read()
 
 
-def crowd(address, connections, posts, what):
-    """The seconds that the posts take over so many connections, and the time that one of a hundred passes."""
-    with Crowd(address, connections, posts) as posters:
-        if posters.connect(PATIENCE) != connections:
-            sys.exit(f"{what}: {connections} connections aren't there")
-        seconds = posters.run(PATIENCE)
-        if list(posters.replies.values()) != [200] * len(posts):
-            sys.exit(f"{what}: of {len(posts)} posts {len(posters.replies)} were answered: {set(posters.replies.values())}")
-        return seconds, at_place(posters.times, 0.99)
+def crowd(given, address, connections, posts, what):
+    """The seconds that the posts take over so many connections, and the time that one of a hundred passes: by `posters.c`, which takes less of
+    a processor than what is measured."""
+    words = [given.posters, str(address[1]), str(connections), str(len(posts)), str(SIZE)]
+    done = subprocess.run(words, stdout=subprocess.PIPE, timeout=PATIENCE, check=False)
+    if done.returncode:
+        sys.exit(f"{what}: {connections} connections that post didn't come to their end")
+    seconds, late = done.stdout.split()
+    return float(seconds), float(late)
 
 
 def served(given, posts, connections, *words):
@@ -89,7 +89,7 @@ def served(given, posts, connections, *words):
     without_store(given.folder)
     server = Server(given, *words)
     used = server.seconds()
-    seconds, late = crowd(server.address, connections, posts, words[0])
+    seconds, late = crowd(given, server.address, connections, posts, words[0])
     share = (server.seconds() - used) / seconds
     if server.end() != len(posts):
         sys.exit(f"{words[0]}: not all posts are recorded")
@@ -168,7 +168,7 @@ def measure(given):
 
 def main():
     words = argparse.ArgumentParser(description=__doc__)
-    for name in ("peer", "agreements", "folder"):
+    for name in ("peer", "posters", "agreements", "folder"):
         words.add_argument(name)
     words.add_argument("--program", type=os.path.abspath)
     words.add_argument("--posts", type=int, default=4_000)

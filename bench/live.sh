@@ -10,4 +10,5 @@ top=$(cd "$(dirname "$0")/.." && pwd)
 folder=$(mktemp -d)
 trap 'rm -rf "$folder"' EXIT
 cc -O2 "$top/bench/peer.c" -o "$folder/peer" -lsqlite3 -lcrypto
-python3 "$top/bench/live.py" "$folder/peer" "$top/examples/agreements.toml" "$folder" "$@"
+cc -O2 "$top/bench/posters.c" -o "$folder/posters"
+python3 "$top/bench/live.py" "$folder/peer" "$folder/posters" "$top/examples/agreements.toml" "$folder" "$@"
