@@ -102,7 +102,7 @@ def main():
             if buyer.poll() is not None:
                 sys.exit("folders: " + pathlib.Path("buyer.txt").read_text())
             time.sleep(0.05)
-        url = re.match("listening: (.*)\n", pathlib.Path("buyer.txt").read_text())[1]
+        url = re.search("^listening: (.*)$", pathlib.Path("buyer.txt").read_text(), re.M)[1]
         _, good = each_step("take-out", take_out)
         goes, sent = each_step("send-orders", lambda *which: send_orders(*which, f"http://{url}/as2"))
         came = desk(BUYER, "buyer.db", "list", "in").count("\n")
