@@ -35,7 +35,7 @@ class Running:
         end = time.monotonic() + PATIENCE
         while time.monotonic() < end:
             ended = self.process.poll() is not None
-            found = re.match(rb"listening: (\S+):(\d+)\n", self.text())
+            found = re.search(rb"^listening: (\S+):(\d+)\n", self.text(), re.M)
             if found:
                 return found.group(1).decode(), int(found.group(2))
             if ended:
