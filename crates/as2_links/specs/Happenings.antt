@@ -79,8 +79,8 @@ GetsBy is_over heard (Reply status fields body) =
 abbrev pub IsBegun : LinkState → List ℕ → Type 0
 IsBegun s sent = (missing : List ℕ) × (s.job.bytes ≡ sent ++ missing)
 
--- It was right that this happened: a link is opened where none is, for what no other is open for; what goes over it begins its request; bytes are
--- read only behind the whole request; and what the try got that ends is what its own link brought.
+-- It was right that this happened. A link is opened where none is, for what no other is open for. What goes over it begins its request. Bytes are
+-- read only behind the whole request. What a try got that ends is what its own link brought.
 abbrev pub IsRight : LinkHappening → LinkHappenings → Type 0
 IsRight (Begins l what job) h = (link_at l h ≡ None) × ((k : ℕ) → ¬ (IsLinkFor what (link_at k h)))
 IsRight (Sends l piece) h = IsOpenWith (link_at l h) (λ s. IsBegun s (s.sent ++ piece))

@@ -1,5 +1,5 @@
 -- What is kept of links, after what happened at them.
-use Rattle.std.specs.Prelude.{◌≡◌, ℕ, ◌==◌, Bool, true, false, drop, List, [], ◌∷◌, ◌++◌, Option, Some, None, slice_get}
+use Rattle.std.specs.Prelude.{◌≡◌, ℕ, ◌==◌, ◌&&◌, Bool, not, true, false, drop, length, List, [], ◌∷◌, ◌++◌, Option, Some, None, slice_get}
 use Rattle.std.specs.List.{list_any}
 use Rattle.as2_exchange.specs.declared.next.Next.{Next}
 use Rattle.as2_exchange.specs.declared.next.Next.TheVariants.{Document, Receipt}
@@ -24,6 +24,12 @@ HoldsAnswer (Got answer) heard is_over = GetsBy is_over heard answer
 abbrev pub is_answer_known : Answer → Bool
 is_answer_known (Awaited parser) = false
 is_answer_known (Got it) = true
+
+-- the request was written whole, and it isn't known yet what the try got
+abbrev pub awaits_answer : Option (Option Link) → Bool
+awaits_answer None = false
+awaits_answer (Some None) = false
+awaits_answer (Some (Some link)) = length (unsent_of link) == 0 && not (is_answer_known link.answer)
 
 -- what is kept of a link is what went over it
 pub record HoldsLink (link : Link) (s : LinkState) : Type 0 where

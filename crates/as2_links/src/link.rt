@@ -1,5 +1,5 @@
 //! One link: the request of a try goes over it, and an answer comes.
-ghost use Rattle.std.specs.Prelude.{◌≡◌, ◌≤◌, ◌++◌, ℕ, List, length, take, [], true, false, IsTrue};
+ghost use Rattle.std.specs.Prelude.{◌≡◌, ◌==◌, ◌≤◌, ◌++◌, ℕ, List, length, not, take, [], true, false, IsTrue};
 ghost use Rattle.as2_exchange.specs.declared.event.TryAnswer.TheVariants as TryAnswer;
 ghost use Rattle.as2_messages.specs.AnswerPieces.{HasKept};
 ghost use Rattle.as2_links.specs.Happenings.{GetsBy, LinkState, fresh};
@@ -108,7 +108,8 @@ impl Link {
 
     /// The request was written whole.
     pub fn has_sent(&self) -> bool
-        ensures { IsTrue result → unsent_of self.now ≡ [] }
+        ensures exact { result ≡ (length (unsent_of self.now) == 0) }
+        ensures whole { IsTrue result → unsent_of self.now ≡ [] }
     {
         self.unsent().is_empty()
     }
@@ -132,6 +133,7 @@ impl Link {
 
     /// Takes bytes that came. False: a whole answer came before, or none can come, and nothing changes.
     pub(crate) fn hear(&mut self, piece: &[u8]) -> bool
+        ensures awaits { result ≡ not (is_answer_known self.old.answer) }
         ensures holds { IsTrue result → (s : LinkState) → HoldsLink self.old s
             → HoldsLink self.new (record s { heard = s.heard ++ piece.now }) }
         ensures same { result ≡ false → self.new ≡ self.old }
@@ -150,7 +152,9 @@ impl Link {
 
     /// Takes that no more bytes come. False: a whole answer came before, or none can come, and nothing changes.
     pub(crate) fn cut(&mut self) -> bool
-        ensures holds { IsTrue result → (s : LinkState) → HoldsLink self.old s → HoldsLink self.new (record s { is_over = true }) }
+        ensures awaits { result ≡ not (is_answer_known self.old.answer) }
+        ensures holds { IsTrue result → (s : LinkState) → HoldsLink self.old s
+            → HoldsLink self.new (record s { is_over = true }) }
         ensures same { result ≡ false → self.new ≡ self.old }
     {
         match mem::replace(&mut self.answer, Answer::Got(TryAnswer::NoAnswer)) {

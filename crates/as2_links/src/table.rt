@@ -1,8 +1,8 @@
 //! The links that are open, each at its place.
-ghost use Rattle.std.specs.Prelude.{◌≡◌, ◌∷◌, ◌++◌, [], take, option_map, position, is_none, IfOk, IsTrue, slice_get};
+ghost use Rattle.std.specs.Prelude.{◌≡◌, ◌∷◌, ◌++◌, [], false, take, option_map, position, is_none, is_some, IfOk, IsTrue, slice_get};
 ghost use Rattle.as2_links.specs.Happenings.{LinkHappenings, Begins, Sends, Hears, Cuts, if_so};
 ghost use Rattle.std.specs.List.{list_any};
-ghost use Rattle.as2_links.specs.Links.{LinksStand, MayOpen, ended_at, is_for, link_in, links_of, unsent_at};
+ghost use Rattle.as2_links.specs.Links.{LinksStand, MayOpen, awaits_answer, ended_at, is_for, link_in, links_of, unsent_at};
 
 use crate::link::{EndedLink, Link};
 use as2_exchange::{Job, Next};
@@ -62,7 +62,8 @@ impl LinkTable {
 
     /// A link may be opened there for it: no link is there, and none is open for it.
     pub fn may_open(&self, at: usize, what: Next) -> bool
-        ensures { IsTrue result → MayOpen self.now at what }
+        ensures yes { IsTrue result → MayOpen self.now at what }
+        ensures no { result ≡ false → ¬ (MayOpen self.now at what) }
     {
         match self.links.get(at) {
             Some(None) => !self.is_open_for(what),
@@ -80,6 +81,7 @@ impl LinkTable {
 
     /// As many as this of the bytes that are still to be written there went, or all. False: none did, and nothing changes.
     pub fn sent(&mut self, at: usize, most: usize) -> bool
+        ensures there { result ≡ is_some (link_in (slice_get (links_of self.old) at)) }
         ensures stands { (h : LinkHappenings) → LinksStand self.old h → LinksStand self.new
             (if_so result (Sends at (take most (unsent_at (slice_get (links_of self.old) at)))) ++ h) }
     {
@@ -96,6 +98,7 @@ impl LinkTable {
 
     /// Takes bytes that came there. False: no link is there whose request was written and that awaits an answer, and nothing changes.
     pub fn hear(&mut self, at: usize, piece: &[u8]) -> bool
+        ensures awaits { result ≡ awaits_answer (slice_get (links_of self.old) at) }
         ensures stands { (h : LinkHappenings) → LinksStand self.old h
             → LinksStand self.new (if_so result (Hears at piece.now) ++ h) }
     {
@@ -113,6 +116,7 @@ impl LinkTable {
 
     /// Takes that no more bytes come there. False: as `hear`.
     pub fn cut(&mut self, at: usize) -> bool
+        ensures awaits { result ≡ awaits_answer (slice_get (links_of self.old) at) }
         ensures stands { (h : LinkHappenings) → LinksStand self.old h
             → LinksStand self.new (if_so result (Cuts at) ++ h) }
     {
@@ -130,6 +134,7 @@ impl LinkTable {
 
     /// The link there has ended: what its try got. None: no link is there, and nothing changes.
     pub fn end(&mut self, at: usize) -> Option<EndedLink>
+        ensures there { is_some result ≡ is_some (link_in (slice_get (links_of self.old) at)) }
         ensures stands { (h : LinkHappenings) → LinksStand self.old h → LinksStand self.new (ended_at at result ++ h) }
     {
         if at >= self.links.len() {

@@ -23,7 +23,7 @@ use Rattle.as2_station.specs.Said.{begin_event, outcome_event}
 use Rattle.as2_station.proofs.ByHistory.{ends_by_history, run_then}
 use Rattle.as2_station.specs.Steps.{TakesEvent}
 use Rattle.as2_station.specs.Theorem.{said_as}
-use Rattle.as2_live.specs.Living.{AtALink, AtAPlace, Answers, AnswersPlaces, BeginsTry, Commanded, EndsTry, LeadsByOne, LeadsTo, LiveHistory, LivesBy, LivesFrom, LivesOn, Ticks, at_links, at_places, opened_for}
+use Rattle.as2_live.specs.Living.{AtALink, AtAPlace, Answers, AnswersPlaces, BeginsTry, Commanded, EndsTry, LeadsByOne, LeadsTo, LiveHistory, LivesBy, LivesFrom, LivesOn, Ticks, at_links, at_places, opened_for, at_a_link}
 use Rattle.as2_live.specs.declared.live.Live.{Live}
 
 at_places_of_both : (late early : LiveHistory) → at_places (late ++ early) ≡ at_places late ++ at_places early
@@ -311,19 +311,21 @@ module _ {M : Medium} {K : Type 0} (shows : K → Standing M) (old : Live K) (ta
   unlinked linked = goes_on [] refl (λ A s. (refl, refl)) linked
 
   pub link_sent : (l : ℕ) (piece : List ℕ) (is : Bool)
-      → ((h : LinkHappenings) → LinksStand old.links h → LinksStand table (if_so is (Sends l piece) ++ h)) → LivesOn shows old with_links
-  link_sent l piece true linked = (AtALink (Sends l piece) ∷ [], goes_on (AtALink (Sends l piece) ∷ []) refl (λ A s. (refl, refl)) linked)
-  link_sent l piece false linked = ([], unlinked linked)
+      → ((h : LinkHappenings) → LinksStand old.links h → LinksStand table (if_so is (Sends l piece) ++ h))
+      → LivesBy shows old (at_a_link is (Sends l piece)) with_links
+  link_sent l piece true linked = goes_on (AtALink (Sends l piece) ∷ []) refl (λ A s. (refl, refl)) linked
+  link_sent l piece false linked = unlinked linked
 
   pub link_heard : (l : ℕ) (piece : List ℕ) (is : Bool)
-      → ((h : LinkHappenings) → LinksStand old.links h → LinksStand table (if_so is (Hears l piece) ++ h)) → LivesOn shows old with_links
-  link_heard l piece true linked = (AtALink (Hears l piece) ∷ [], goes_on (AtALink (Hears l piece) ∷ []) refl (λ A s. (refl, refl)) linked)
-  link_heard l piece false linked = ([], unlinked linked)
+      → ((h : LinkHappenings) → LinksStand old.links h → LinksStand table (if_so is (Hears l piece) ++ h))
+      → LivesBy shows old (at_a_link is (Hears l piece)) with_links
+  link_heard l piece true linked = goes_on (AtALink (Hears l piece) ∷ []) refl (λ A s. (refl, refl)) linked
+  link_heard l piece false linked = unlinked linked
 
   pub link_cut : (l : ℕ) (is : Bool) → ((h : LinkHappenings) → LinksStand old.links h → LinksStand table (if_so is (Cuts l) ++ h))
-      → LivesOn shows old with_links
-  link_cut l true linked = (AtALink (Cuts l) ∷ [], goes_on (AtALink (Cuts l) ∷ []) refl (λ A s. (refl, refl)) linked)
-  link_cut l false linked = ([], unlinked linked)
+      → LivesBy shows old (at_a_link is (Cuts l)) with_links
+  link_cut l true linked = goes_on (AtALink (Cuts l) ∷ []) refl (λ A s. (refl, refl)) linked
+  link_cut l false linked = unlinked linked
 
 -- an event that a call took is a step of the machine, or a fault that changed nothing
 pub took : {M : Medium} {X : Type 0} (A : AgreedValues) (e : Event) (tell : X → Answer) (old new : Standing M) (r : Result X StoreFault)

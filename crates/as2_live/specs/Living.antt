@@ -1,5 +1,5 @@
 -- What happens to a live station, and where it leads.
-use Rattle.std.specs.Prelude.{◌≡◌, ℕ, List, [], ◌∷◌, ◌++◌, map, Option, Some, None, ⊤}
+use Rattle.std.specs.Prelude.{◌≡◌, ℕ, Bool, false, List, [], ◌∷◌, ◌++◌, map, slice_get, Option, Some, None, is_some, ⊤}
 use Rattle.as2_agreement.specs.Agreements.{AgreedValues}
 use Rattle.as2_exchange.specs.Run as run
 use Rattle.as2_exchange.specs.Run.{AnEvent, Answered, EventResult, Run, Trace}
@@ -17,9 +17,11 @@ use Rattle.as2_hub.specs.Places.{StandAfter, places}
 use Rattle.as2_hub.specs.Rounds.{AnswerWhatWaited}
 use Rattle.as2_hub.specs.Turns.{called_places, places_asked}
 use Rattle.as2_front.specs.Serving.{AnswersCalls}
-use Rattle.as2_links.specs.Happenings.{Begins, Cuts, Ends, Hears, LinkHappening, LinkHappenings, Sends}
-use Rattle.as2_links.specs.Links.{LinksStand}
+use Rattle.as2_links.specs.Happenings.{Begins, Cuts, Ends, Hears, LinkHappening, LinkHappenings, Sends, if_so}
+use Rattle.as2_links.specs.Links.{LinksStand, MayOpen, link_in, links_of}
 use Rattle.as2_records.specs.Standing.{Medium, Standing}
+use Rattle.as2_sending.specs.Hints.{why_of}
+use Rattle.as2_sending.specs.declared.links.LinkFault.{LinkFault}
 use Rattle.as2_station.specs.Said.{begin_event, outcome_event, said_to_outcome}
 use Rattle.as2_station.specs.Theorem.{EndsByHistory, said_as}
 use Rattle.as2_live.specs.declared.live.Live.{Live}
@@ -82,9 +84,9 @@ at_links (AtALink what ∷ h) = what ∷ at_links h
 at_links (BeginsTry l what moment said ∷ h) = opened_for l what said ++ at_links h
 at_links (EndsTry l what got moment said ∷ h) = Ends l what got ∷ at_links h
 
--- these happen at links
-abbrev pub all_at_links : LinkHappenings → LiveHistory
-all_at_links = map AtALink
+-- that happened at a link, or nothing did
+abbrev pub at_a_link : Bool → LinkHappening → LiveHistory
+at_a_link is what = map AtALink (if_so is what)
 
 -- ---- where it leads
 
@@ -102,8 +104,8 @@ pub record LeadsByOne (A : AgreedValues) (s : State) (Left : State → Type 0) :
   pub one : IsOneAtMost events
   pub run : Run A s events state
 
--- From the state s what happened leads to t: each round answers its calls one after the other, from the state that was left before; a
--- moment that has come is an event, as a try that begins and its outcome are, and a command one event or none; and nothing else changes the
+-- From the state s what happened leads to t. Each round answers its calls one after the other, from the state that was left before. A
+-- moment that has come is an event. So are a try that begins and its outcome. A command is one event or none. Nothing else changes the
 -- state. The trace has the posts and the events, in the order in which they were taken.
 abbrev pub LeadsTo : AgreedValues → State → LiveHistory → Trace → State → Type 0
 LeadsTo A s [] trace t = (trace ≡ []) × (t ≡ s)
@@ -140,8 +142,8 @@ module _ {M : Medium} {K : Type 0} (shows : K → Standing M) where
     pub run : Run A s trace left
     pub by_history : EndsByHistory A s trace left
 
-  -- This happened in between. Whatever happened before, the connections stand as after it, and what waited was answered and nothing else;
-  -- the links stand as after it, and what happened at them was right; and the records stand for the state that it led to.
+  -- This happened in between. Whatever happened before, the connections stand as after it, and what waited was answered and nothing else.
+  -- The links stand as after it, and what happened at them was right. The records stand for the state that it led to.
   pub record LivesBy (old : Live K) (history : LiveHistory) (new : Live K) : Type 0 where
     pub stands : (h : Happenings) → StandAfter (places old.hub) h → StandAfter (places new.hub) (at_places history ++ h)
     pub answer : (h : Happenings) → StandAfter (places old.hub) h → AnswerWhatWaited h → AnswerWhatWaited (at_places history ++ h)
@@ -154,16 +156,17 @@ module _ {M : Medium} {K : Type 0} (shows : K → Standing M) where
 
   -- a try began at that place, was refused, or a fault came; or no link could be opened there for it, and nothing happened
   abbrev pub BeginsOn : ℕ → Next → ℕ → Live K → Live K → TryBegun → Type 0
-  BeginsOn l what moment old new NoPlace = LivesBy old [] new
+  BeginsOn l what moment old new NoPlace = LivesBy old [] new × ¬ (MayOpen old.links l what)
   BeginsOn l what moment old new Begun = (job : Job) × LivesBy old (BeginsTry l what moment (Answered (Handed job)) ∷ []) new
   BeginsOn l what moment old new (begun.Refused reason) = LivesBy old (BeginsTry l what moment (Answered (Refused reason)) ∷ []) new
   BeginsOn l what moment old new (begun.Failed fault) = LivesBy old (BeginsTry l what moment (run.Failed fault) ∷ []) new
 
-  -- the link there ended, with the outcome of its try; or there was none, and nothing happened
-  abbrev pub EndsOn : ℕ → ℕ → Live K → Live K → Option EndedTry → Type 0
-  EndsOn l moment old new None = LivesBy old [] new
-  EndsOn l moment old new (Some ended) =
-      (got : TryAnswer) × LivesBy old (EndsTry l ended.what got moment (said_as said_to_outcome ended.said) ∷ []) new
+  -- the link there ended, with the outcome of its try, and why it failed where it did; or there was none, and nothing happened
+  abbrev pub EndsOn : ℕ → ℕ → LinkFault → Live K → Live K → Option EndedTry → Type 0
+  EndsOn l moment fault old new None = LivesBy old [] new × (is_some (link_in (slice_get (links_of old.links) l)) ≡ false)
+  EndsOn l moment fault old new (Some ended) =
+      (got : TryAnswer) × (ended.why ≡ why_of got fault)
+      × LivesBy old (EndsTry l ended.what got moment (said_as said_to_outcome ended.said) ∷ []) new
 
   -- something happened in between
   abbrev pub LivesOn : Live K → Live K → Type 0

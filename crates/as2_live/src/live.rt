@@ -1,5 +1,5 @@
 //! A live station, as whoever has its sockets drives it.
-ghost use Rattle.std.specs.Prelude.{◌≡◌, ◌∷◌, [], min, length, slice_get, take, true};
+ghost use Rattle.std.specs.Prelude.{◌≡◌, ◌∷◌, [], min, is_some, length, slice_get, take, true};
 ghost use Rattle.as2_hub.specs.Places.{is_vacant, output_at, places, room_in};
 ghost use Rattle.as2_hub.specs.Happenings.{Closes};
 ghost use Rattle.as2_hub.specs.Inputs.{comes_if, goes_to, opens_if};
@@ -7,7 +7,9 @@ ghost use Rattle.as2_exchange.specs.declared.answer.Answer.TheVariants.{Ticked};
 ghost use Rattle.as2_station.specs.Theorem.{said_as};
 ghost use Rattle.as2_records.specs.Calls.{Reads};
 ghost use Rattle.as2_station.specs.Due.{destination, next_behind};
-ghost use Rattle.as2_live.specs.Living.{AnswersPlaces, BeginsOn, EndsOn, LivesBy, LivesOn, Ticks, all_at_places};
+ghost use Rattle.as2_live.specs.Living.{AnswersPlaces, BeginsOn, EndsOn, LivesBy, Ticks, all_at_places, at_a_link};
+ghost use Rattle.as2_links.specs.Happenings.{Cuts, Hears, Sends};
+ghost use Rattle.as2_links.specs.Links.{awaits_answer, link_in, links_of, unsent_at};
 
 use crate::tries::{EndedTry, TryBegun};
 use as2_exchange::{Bytes, Next, StoreFault};
@@ -155,21 +157,24 @@ impl<'a, K: Records> Live<'a, K> {
 
     /// As many as this of the bytes that are to be written to the link there went, or all.
     pub fn link_sent(&mut self, at: usize, most: usize)
-        ensures lives { LivesOn K.shows self.old self.new }
+        ensures lives { LivesBy K.shows self.old (at_a_link (is_some (link_in (slice_get (links_of self.old.links) at)))
+            (Sends at (take most (unsent_at (slice_get (links_of self.old.links) at))))) self.new }
     {
         self.links.sent(at, most);
     }
 
     /// Takes bytes that came over the link there. None is taken before its whole request was written, nor behind a whole answer.
     pub fn link_heard(&mut self, at: usize, piece: &[u8])
-        ensures lives { LivesOn K.shows self.old self.new }
+        ensures lives { LivesBy K.shows self.old
+            (at_a_link (awaits_answer (slice_get (links_of self.old.links) at)) (Hears at piece.now)) self.new }
     {
         self.links.hear(at, piece);
     }
 
     /// The partner sends no more over the link there.
     pub fn link_cut(&mut self, at: usize)
-        ensures lives { LivesOn K.shows self.old self.new }
+        ensures lives { LivesBy K.shows self.old
+            (at_a_link (awaits_answer (slice_get (links_of self.old.links) at)) (Cuts at)) self.new }
     {
         self.links.cut(at);
     }
@@ -177,7 +182,7 @@ impl<'a, K: Records> Live<'a, K> {
     /// The link there is closed, and what it brought is taken at this moment as the outcome of its try. `fault` is why it brought no
     /// whole answer, where it brought none. None where no link is there.
     pub fn end_try(&mut self, at: usize, moment: Moment, fault: LinkFault) -> Option<EndedTry>
-        ensures ends { EndsOn K.shows at moment self.old self.new result }
+        ensures ends { EndsOn K.shows at moment fault self.old self.new result }
     {
         let Some(EndedLink { what, got }) = self.links.end(at) else {
             return None;

@@ -11,7 +11,7 @@ use Rattle.as2_live.proofs.Going.{began, lives_none, took}
 use Rattle.as2_live.proofs.live.Live.begin_try.Goals as goal
 
 pub returns-then-not-may_open : goal.returns-then-not-may_open
-returns-then-not-may_open g c = record { begins = lives_none g.K.Records.shows _ _ refl }
+returns-then-not-may_open g c = record { begins = (lives_none g.K.Records.shows _ _ refl, c.may_open.ensures.no cc) }
 
 pub returns-in-Ok-Ok : goal.returns-in-Ok-Ok
 returns-in-Ok-Ok g c =

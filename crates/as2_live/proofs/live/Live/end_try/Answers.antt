@@ -1,4 +1,4 @@
-use Rattle.std.proofs.Common.{◌++◌, Option, refl, ap, subst}
+use Rattle.std.proofs.Common.{◌++◌, ◌∙◌, Option, is_some, refl, sym, ap, subst}
 use Rattle.as2_links.specs.Links.{LinksStand, ended_at}
 use Rattle.as2_links.specs.declared.link.EndedLink.{EndedLink}
 use Rattle.as2_station.specs.Said.{outcome_event, said_to_outcome}
@@ -9,8 +9,11 @@ use Rattle.as2_live.proofs.live.Live.end_try.Goals as goal
 
 pub returns-in_default : goal.returns-in_default
 returns-in_default g c = record {
-  ends = unlinked g.K.Records.shows c.args.self.now c.end.new.self (λ h stand.
-      subst (λ (o : Option EndedLink). LinksStand c.end.new.self (ended_at c.args.at o ++ h)) c.in_default.is (c.end.ensures.stands h stand));
+  ends = (
+    unlinked g.K.Records.shows c.args.self.now c.end.new.self (λ h stand.
+        subst (λ (o : Option EndedLink). LinksStand c.end.new.self (ended_at c.args.at o ++ h)) c.in_default.is (c.end.ensures.stands h stand)),
+    sym c.end.ensures.there ∙ ap is_some c.in_default.is,
+  );
 }
 
 pub returns : goal.returns
@@ -22,6 +25,7 @@ returns g c =
     record {
       ends = (
         got,
+        c.why_of-why.ensures,
         ended g.K.Records.shows old (record old { desk = desk; links = c.end.new.self }) refl
             (ap (λ (d : StationDesk g.row.K.Denot). d.agreements.now) c.close-said.ensures.same) c.close-said.ensures.taken.does.clean c.args.at what got
             c.args.moment (said_as said_to_outcome c.close-said.result)
