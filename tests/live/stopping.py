@@ -11,6 +11,7 @@ from station import Desk, post_of
 import running
 
 STOP = 10  # seconds that what is under way gets
+STOPS = 20  # stops with a command right behind them
 REFUSED = (1, b"", b"refused: NoStation\n")
 OTHER = (1, b"", b"refused: OtherAgreements\n")
 RUNS = (1, b"", b"refused: StationRuns\n")
@@ -109,9 +110,23 @@ def connects(address):
         return False
 
 
+def behind(given, folder, differences):
+    """Commands right behind a stop find the store's file free."""
+    desk = Desk(given.program, folder)
+    begin = f"'{desk.program}' --moment 1200 --agreements agreements.toml --store {desk.store}"
+    for number in range(STOPS):
+        with Running(desk) as station:
+            half_closed(station, post_of(b"at%d" % number))
+            ran = subprocess.run(["sh", "-c", f"{begin} stop && {begin} list in"], cwd=desk.folder, stdin=subprocess.DEVNULL, capture_output=True,
+                                 timeout=running.PATIENCE, check=False)
+            differences.expect(f"stop: a command right behind it, {number}", (ran.returncode, ran.stdout.count(b"\n"), ran.stderr), (0, number + 1, b""))
+            station.process.wait(running.PATIENCE)
+
+
 def stop(given, folder, differences):
     """`stop`, and what is refused while a station runs."""
     refusals(given, f"{folder}-refusals", differences)
+    behind(given, f"{folder}-behind", differences)
     at_once, later = quick(given, f"{folder}-quick", differences), under_way(given, f"{folder}-under-way", differences)
     return f"beside connections that are kept it takes {at_once:.1f} s, amid a slow request {later:.1f} s"
 

@@ -1,7 +1,7 @@
 //! A command is sent to the station that runs over its store.
 
-use crate::finding::connect;
 use crate::telling::{tell, tell_lost};
+use as2_askers::connect;
 use as2_commands::{Command, Options, Question, Task, options_in};
 use as2_control::{Demand, Outcome, StillToCome, awaited, demand_frame, read_outcome};
 use as2_desk::{CommandFault, Console, Ran, refuse};

@@ -2,8 +2,6 @@
 #![tactic(auto)]
 
 mod asking;
-mod finding;
 mod telling;
 
 pub use asking::ask_station;
-pub use finding::{control_path, store_link_path};

@@ -1,5 +1,5 @@
 -- A station's store: it is opened, led on and closed; or what is kept there is kept.
-use Rattle.std.proofs.Common.{◌≡◌, ◌∙◌, ℕ, List, Option, Some, None, Result, Ok, Err, sym, ap, subst}
+use Rattle.std.proofs.Common.{◌≡◌, ◌∙◌, IsTrue, inl, inr, Bool, true, false, if◌then◌else◌, ℕ, List, Option, Some, None, Result, Ok, Err, sym, ap, subst}
 use Rattle.std.specs.Prelude.{IfErr, IfOk, IfSome, string_bytes}
 use Rattle.as2_agreement.specs.Agreements.{AgreedValues}
 use Rattle.as2_exchange.specs.State.{State}
@@ -29,6 +29,17 @@ module _ {O Opened InMemory : Type 0} (g : Stores O Opened InMemory) {M : Medium
         record { trace = it.trace; state = it.state; kept = kept is it.state it.kept; run = it.run; by_history = it.by_history };
   }
 
+  -- a store that was opened anew is led on by whoever serves it
+  pub opened_anew : {X E : Type 0} (at : List ℕ) → at ≡ path → (A : AgreedValues) (first : ℕ) (old : O) (records : Opened) (came : Result X E)
+      → ((shows records).IsClean → g.is_clean old)
+      → ((shows records).IsClean → IsTrue (shows records).is_open × ((s : State) → g.keeps old at first s → (shows records).Rests s))
+      → IfOk came (λ (_ : X). LeadsFrom g path A (shows records).IsClean (shows records).Rests new) → IfOk came (λ (_ : X). LeadsOn g path A first old new)
+  opened_anew at is A first old records (Ok x) before found led = inl (record {
+    clean = λ clean. before (led.clean clean);
+    led = λ clean s kept. led.led clean s ((found (led.clean clean)).1 s (subst (λ (p : List ℕ). g.keeps old p first s) (sym is) kept));
+  })
+  opened_anew at is A first old records (Err e) before found led = tt
+
   -- what was opened is what was kept
   pub opened_before : (A : AgreedValues) (first : ℕ) (old : O) (records : Opened) → ((shows records).IsClean → g.is_clean old)
       → ((shows records).IsClean → (s : State) → g.keeps old path first s → (shows records).Rests s)
@@ -38,16 +49,33 @@ module _ {O Opened InMemory : Type 0} (g : Stores O Opened InMemory) {M : Medium
     led = λ is s kept. it.led is s (found (it.clean is) s kept);
   }
 
+-- what holds of what is left holds where it is to go on
+if_left : (is_shut : Bool) (held : Held) (P : Held → Type 0) → P held → IfShut (if is_shut then spanned.Shut held else spanned.Stopped held) P
+if_left true held P it = it
+if_left false held P it = tt
+
+-- where a store couldn't be opened anew, what was kept is kept
+pub kept_unopened : {O Opened InMemory : Type 0} (g : Stores O Opened InMemory) (at path : List ℕ) (old new : O) → at ≡ path
+    → {X E : Type 0} (A : AgreedValues) (first : ℕ) (came : Result X E) → (g.is_clean new → g.is_clean old)
+    → ((number : ℕ) (s : State) → g.keeps old at number s → g.keeps new at number s) → IfOk came (λ (_ : X). LeadsOn g path A first old new)
+kept_unopened g at path old new is A first (Ok x) clean same = inr (record {
+  clean = clean;
+  same = subst (λ (p : List ℕ). (number : ℕ) (s : State) → g.keeps old p number s → g.keeps new p number s) is same;
+})
+kept_unopened g at path old new is A first (Err e) clean same = tt
+
 -- what came of a station that has run, and what is to go on
-pub went : (basis : Basis) (L : Type 0) (came : Result (Option Held) CommandFault) (told : Spanned) → TellsCame came told → HasRun told
-    → IfOk came (λ (_ : Option Held). L) → IfOk came (KeepsBasis basis) → L × IfShut told (λ (later : Held). later.basis ≡ basis)
-went basis L (Ok (Some held)) told is has leads keeps = (leads, subst (λ (t : Spanned). IfShut t (λ (later : Held). later.basis ≡ basis)) (sym is) keeps)
-went basis L (Ok None) told is has leads keeps = (leads, subst (λ (t : Spanned). IfShut t (λ (later : Held). later.basis ≡ basis)) (sym is) tt)
-went basis L (Err refusal) told (ran, is, not) has leads keeps = absurd (not (subst HasRun is has))
+pub went : (basis : Basis) (L : Type 0) (came : Result Held CommandFault) (told : Spanned) → TellsCame came told → HasRun told
+    → IfOk came (λ (_ : Held). L) → IfOk came (KeepsBasis basis) → L × IfShut told (λ (later : Held). later.basis ≡ basis)
+went basis L (Ok held) told is has leads keeps =
+    let Keeps = λ (later : Held). later.basis ≡ basis in
+    (leads, subst (λ (t : Spanned). IfShut t Keeps) (sym is) (if_left held.shell.is_shut held Keeps keeps))
+went basis L (Err refusal) told (ran, is, not) has leads keeps = absurd (subst HasRun is has)
 
 if_shut : (P Q : Held → Type 0) (told : Spanned) → ((held : Held) → P held → Q held) → IfShut told P → IfShut told Q
 if_shut P Q spanned.Elsewhere f it = it
-if_shut P Q (spanned.Ended ran) f it = it
+if_shut P Q (spanned.Refused ran) f it = it
+if_shut P Q (spanned.Stopped held) f it = it
 if_shut P Q (spanned.Shut held) f it = f held it
 
 -- the same of one that was begun over these agreements and this path
@@ -63,9 +91,9 @@ module _ (agreed : AgreedText) (path : List ℕ) (L : AgreedValues → Type 0) (
       let same : later.basis.agreed ≡ agreed = ap (λ (b : Basis). b.agreed) is ∙ over.0 in
       (of_text later same, ap (λ (a : AgreedText). a.agreements) same, ap (λ (b : Basis). string_bytes b.store) is ∙ over.1)
 
-  pub began : {E : Type 0} (begun : Result Held E) (came : Result (Option Held) CommandFault) (told : Spanned) → IfOk begun (IsOver agreed path)
+  pub began : {E : Type 0} (begun : Result Held E) (came : Result Held CommandFault) (told : Spanned) → IfOk begun (IsOver agreed path)
       → IfOk begun (λ (h : Held). IfOk came (KeepsBasis h.basis))
-      → IfOk begun (λ (h : Held). IsOfText h.basis → string_bytes h.basis.store ≡ path → IfOk came (λ (_ : Option Held). L h.basis.agreed.agreements))
+      → IfOk begun (λ (h : Held). IsOfText h.basis → string_bytes h.basis.store ≡ path → IfOk came (λ (_ : Held). L h.basis.agreed.agreements))
       → IfErr begun (λ (_ : E). came ≡ Err fault.CannotListen) → TellsCame came told → HasRun told → L agreed.agreements × IfShut told Behind
   began (Ok held) came told over keeps leads none tells has =
       let it = went held.basis (L held.basis.agreed.agreements) came told tells has (leads (of_text held over.0) over.1) keeps in (
@@ -73,8 +101,8 @@ module _ (agreed : AgreedText) (path : List ℕ) (L : AgreedValues → Type 0) (
         if_shut (λ (later : Held). later.basis ≡ held.basis) Behind told (λ later is. behind held later over is) it.1,
       )
   began (Err e) came told over keeps leads none tells has =
-      let it : TellsCame (Err fault.CannotListen) told = subst (λ (c : Result (Option Held) CommandFault). TellsCame c told) none tells in
-      absurd (it.2 (subst HasRun it.1 has))
+      let it : TellsCame (Err fault.CannotListen) told = subst (λ (c : Result Held CommandFault). TellsCame c told) none tells in
+      absurd (subst HasRun it.1 has)
 
 -- what was begun, over the path that it was begun with
 pub begun_at : {E : Type 0} (begun : Result Held E) (held : Held) (path : List ℕ) (Q : List ℕ → AgreedValues → Type 0) → begun ≡ Ok held
@@ -91,8 +119,8 @@ none_run (Some h) Q = λ text run. absurd run
 
 -- one that was to go on has gone on
 pub gone_on : {O Opened InMemory : Type 0} (g : Stores O Opened InMemory) (held : Option Held) (h : Held) (first : ℕ) (old new : O)
-    (came : Result (Option Held) CommandFault) (told : Spanned) → held ≡ Some h → TellsCame came told → IfOk came (KeepsBasis h.basis)
-    → (IsOfText h.basis → IfOk came (λ (_ : Option Held). LeadsOn g (string_bytes h.basis.store) h.basis.agreed.agreements first old new))
+    (came : Result Held CommandFault) (told : Spanned) → held ≡ Some h → TellsCame came told → IfOk came (KeepsBasis h.basis)
+    → (IsOfText h.basis → IfOk came (λ (_ : Held). LeadsOn g (string_bytes h.basis.store) h.basis.agreed.agreements first old new))
     → IfSome held (λ (h : Held). IsOfText h.basis → HasRun told → GoesOnWith g h old new told)
 gone_on g held h first old new came told is tells keeps leads =
     subst (λ (o : Option Held). IfSome o (λ (h : Held). IsOfText h.basis → HasRun told → GoesOnWith g h old new told)) (sym is) (λ text has.

@@ -1,5 +1,5 @@
 -- What a station that runs makes of its records.
-use Rattle.std.specs.Prelude.{◌≡◌, ◌≢◌, ◌⊎◌, ℕ, List, Option, Some, None, IfSome, Result, Ok, Err, string_bytes, true, ⊤}
+use Rattle.std.specs.Prelude.{◌≡◌, ◌≢◌, ◌⊎◌, ℕ, List, Option, Result, Ok, Err, string_bytes, ⊤, if◌then◌else◌}
 use Rattle.clap.specs.Words.{Text}
 use Rattle.as2_agreement.specs.Agreements.{AgreedValues}
 use Rattle.as2_agreement.specs.Reading.{agreements_reading}
@@ -22,7 +22,7 @@ use Rattle.as2_live.specs.declared.live.Live.{Live}
 use Rattle.as2_loop.specs.declared.commands.Basis.{Basis}
 use Rattle.as2_loop.specs.declared.operating.Held.{Held}
 use Rattle.as2_loop.specs.declared.operating.Spanned.{Spanned}
-use Rattle.as2_loop.specs.declared.operating.Spanned.TheVariants.{Elsewhere, Ended, Shut}
+use Rattle.as2_loop.specs.declared.operating.Spanned.TheVariants.{Elsewhere, Refused, Shut, Stopped}
 use Rattle.as2_records.specs.Standing.{Medium, Standing}
 use Rattle.as2_station.specs.Theorem.{EndsByHistory}
 
@@ -54,8 +54,8 @@ module _ {M : Medium} {R : Type 0} (shows : R → Standing M) where
     pub led : (shows new).IsClean → (s : State) → (shows old).Rests s → LedTo basis.agreed.agreements s (shows new).Rests
 
 module _ {O Opened InMemory : Type 0} (g : Stores O Opened InMemory) (path : List ℕ) where
-  -- What is kept under the path then is what a run of the machine led to from each state that stood (Stood), where the medium has returned
-  -- what was written. It had done so before (Clean).
+  -- Where the medium has returned what was written, it had done so before (Clean). What is kept under the path then is what a run of the
+  -- machine led to, from each state that stood (Stood).
   pub record LeadsFrom (A : AgreedValues) (Clean : Type 0) (Stood : State → Type 0) (new : O) : Type 0 where
     pub clean : g.is_clean new → Clean
     pub led : g.is_clean new → (s : State) → Stood s → LedTo A s (λ t. (number : ℕ) → g.keeps new path number t)
@@ -65,29 +65,33 @@ module _ {O Opened InMemory : Type 0} (g : Stores O Opened InMemory) (path : Lis
     pub clean : g.is_clean new → g.is_clean old
     pub same : (number : ℕ) (s : State) → g.keeps old path number s → g.keeps new path number s
 
-  -- The store of that path was led on from what was kept under it, a new one from no entry and this first number; or it wasn't opened,
+  -- The store of that path was led on from what was kept under it, a new one from no entry and this first number. Or it wasn't opened,
   -- and what was kept is kept.
   abbrev pub LeadsOn : AgreedValues → ℕ → O → O → Type 0
   LeadsOn A first old new = LeadsFrom A (g.is_clean old) (g.keeps old path first) new ⊎ KeepsAll old new
 
--- what is to go on is what ran
-abbrev pub KeepsBasis : Basis → Option Held → Type 0
-KeepsBasis basis held = IfSome held (λ (h : Held). h.basis ≡ basis)
+-- what is left of a station is what ran
+abbrev pub KeepsBasis : Basis → Held → Type 0
+KeepsBasis basis held = held.basis ≡ basis
 
 -- what is to go on runs by these agreements, over the store of that path
 abbrev pub IsOver : AgreedText → List ℕ → Held → Type 0
 IsOver agreed path held = (held.basis.agreed ≡ agreed) × (string_bytes held.basis.store ≡ path)
 
+-- what is left of a station whose records couldn't be reached is to go on; else it has stopped
+abbrev pub left_as : Held → Spanned
+left_as held = if held.shell.is_shut then Shut held else Stopped held
+
 -- what came of a station is told so
-abbrev pub TellsCame : Result (Option Held) CommandFault → Spanned → Type 0
-TellsCame (Ok (Some held)) told = told ≡ Shut held
-TellsCame (Ok None) told = told ≡ Ended (record { status = status_done; told = true })
-TellsCame (Err refusal) told = (ran : Ran) × (told ≡ Ended ran) × (ran.status ≢ status_done)
+abbrev pub TellsCame : Result Held CommandFault → Spanned → Type 0
+TellsCame (Ok held) told = told ≡ left_as held
+TellsCame (Err refusal) told = (ran : Ran) × (told ≡ Refused ran) × (ran.status ≢ status_done)
 
 -- a station has run: it has stopped, or is to go on
 abbrev pub HasRun : Spanned → Type 0
 HasRun Elsewhere = ⊥
-HasRun (Ended ran) = ran.status ≡ status_done
+HasRun (Refused ran) = ⊥
+HasRun (Stopped held) = ⊤
 HasRun (Shut held) = ⊤
 
 -- what is to go on, where something is

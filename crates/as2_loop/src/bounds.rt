@@ -41,14 +41,5 @@ pub(crate) struct Waits {
 /// How long another request is waited for where all connections are taken and somebody waits for one, in milliseconds.
 pub(crate) const CROWDED_IDLE: u64 = 2_000;
 
-/// How many may ask at the control socket at once.
-pub(crate) const ASKERS: usize = 16;
-
-/// How long one who asks is waited for, in milliseconds.
-pub(crate) const ASKER_WAIT: u64 = 30_000;
-
-/// .. and where it has said nothing yet.
-pub(crate) const ASKER_SILENCE: u64 = 2_000;
-
 /// How long what is under way may take once the station is to stop, in milliseconds.
 pub(crate) const STOP: u64 = 10_000;

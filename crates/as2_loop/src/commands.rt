@@ -25,7 +25,7 @@ use clap::error::ErrorKind;
 use std::alloc::{AllocError, Global};
 
 /// The exit status of what is done.
-pub(crate) const DONE: u8 = 0;
+const DONE: u8 = 0;
 
 /// What a station runs by.
 #[derive(Drop)]

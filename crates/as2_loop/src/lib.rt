@@ -2,12 +2,9 @@
 //! asked for while it runs.
 #![tactic(auto)]
 
-mod asker;
-mod askers;
 mod bounds;
 mod clock;
 mod commands;
-mod control;
 mod door;
 mod marks;
 mod noting;

@@ -16,7 +16,7 @@ use std::time::Duration;
 /// Bytes that a pipe takes without a wait once it says that it has room (`PIPE_BUF` of Linux).
 const PIPE: usize = 4_096;
 
-/// Where lines are written. One that can't be written is lost, and counted: whoever reads them, or doesn't, holds nobody up.
+/// Where lines are written. One that can't be written is lost, and counted. So nobody is held up where nobody reads them.
 #[derive(Drop)]
 pub(crate) struct Notes {
     out: Stderr,

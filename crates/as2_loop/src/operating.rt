@@ -8,13 +8,12 @@ ghost use Rattle.as2_loop.specs.Running.{BeginsStation, GoesOnWith, HasRun, IsOf
 ghost use Rattle.as2_loop.specs.Running.{LeadsOn, TellsCame, LeadsRecords};
 ghost use Rattle.as2_loop.specs.declared.operating.Spanned.TheVariants.{Elsewhere};
 
-use crate::askers::Askers;
 use crate::bounds::Waits;
 use crate::clock::{Moments, told_seconds};
-use crate::commands::{Basis, DONE, answering, bounded};
-use crate::control::Control;
+use crate::commands::{Basis, answering, bounded};
 use crate::marks::FileMark;
 use crate::shell::{BOUNDS, Shell, Sockets};
+use as2_askers::{Askers, Control};
 use as2_bounded::Bounded;
 use as2_commands::{Operating, RunOptions, Task, options_in};
 use as2_desk::{AgreedText, CommandFault, Console, Host, Ran, agreed_text, refuse};
@@ -39,7 +38,7 @@ const IN_MEMORY: &str = ":memory:";
 /// How many times the longest wait a request as a whole may take.
 const WHOLE: u64 = 10;
 
-/// What a station keeps while its store is shut: its agreements, its connections and its sockets.
+/// What is left of a station whose store is shut, or that has stopped: its agreements, its connections and its sockets.
 #[derive(Drop)]
 pub struct Held {
     basis: Basis,
@@ -47,13 +46,23 @@ pub struct Held {
     shell: Shell,
 }
 
+impl Held {
+    /// The station has stopped: takes its control socket away, and tells those who asked it to stop. Call it once the store's file is let go,
+    /// so that a command behind `stop` finds the file free.
+    pub fn end(self) {
+        self.shell.end();
+    }
+}
+
 /// What came of a station.
 #[derive(Drop)]
 pub enum Spanned {
     /// The words ask for none: nothing was done.
     Elsewhere,
-    /// It has ended.
-    Ended(Ran),
+    /// It couldn't begin, or had no memory to go on with. That was said.
+    Refused(Ran),
+    /// It has stopped, and its store is closed. `end` is to be called.
+    Stopped(Held),
     /// Its store has shut for a fault. It goes on where the store is opened anew, and is to be tried again until then.
     Shut(Held),
 }
@@ -202,28 +211,16 @@ fn turn_over<R: Records + Drop, O: OpenStores>(
     })
 }
 
-/// What a station keeps, where it is to go on. One that has stopped takes its socket away, and says so to those who asked for it.
-fn ended_or_held(held: Held) -> Option<Held>
-    ensures { KeepsBasis held.basis result }
-{
-    if held.shell.is_shut() {
-        return Some(held);
-    }
-    let Held { shell, .. } = held;
-    shell.end();
-    None
-}
-
 /// Answers for a while over a store that can't be opened.
 fn wait_for_store<O: OpenStores>(
     held: Held,
     moment: Moment,
     stores: &O,
-) -> Result<Option<Held>, CommandFault>
+) -> Result<Held, CommandFault>
     ensures { IfOk result (KeepsBasis held.basis) }
 {
     match turn_over(held, moment, stores, Bounded::new(ShutRecords, 0)) {
-        Ok(turned) => Ok(ended_or_held(turned.held)),
+        Ok(turned) => Ok(turned.held),
         Err(_) => Err(CommandFault::Memory),
     }
 }
@@ -234,7 +231,7 @@ fn serve_open<O: OpenStores>(
     moment: Moment,
     stores: &mut O,
     records: O::Opened,
-) -> Result<Option<Held>, CommandFault>
+) -> Result<Held, CommandFault>
     ensures basis { IfOk result (KeepsBasis held.basis) }
     ensures leads { IsOfText held.basis → IfOk result (λ _. LeadsFrom O.OpenStores
         (string_bytes held.basis.store) held.basis.agreed.agreements (O.Opened.shows records).IsClean
@@ -249,7 +246,7 @@ fn serve_open<O: OpenStores>(
         Ok(turned) => {
             let Turned { records, held } = turned;
             stores.close(held.basis.store.as_str(), records);
-            Ok(ended_or_held(held))
+            Ok(held)
         }
         Err(_) => Err(CommandFault::Memory),
     }
@@ -276,7 +273,7 @@ fn opened<O: OpenStores>(
     }
 }
 
-/// Begins a station over these records. CannotListen where what it begins with wasn't to be had: the address can't be listened on, or the
+/// Begins a station over these records. CannotListen where it can't have what it begins with: the address can't be listened on, or the
 /// control socket can't be made. Memory where there is none to go on with, and then the store is as a crash leaves it.
 fn begin<O: OpenStores>(
     held: io::Result<Held>,
@@ -284,7 +281,7 @@ fn begin<O: OpenStores>(
     moment: Moment,
     stores: &mut O,
     records: O::Opened,
-) -> Result<Option<Held>, CommandFault>
+) -> Result<Held, CommandFault>
     ensures basis { IfOk held (λ h. IfOk result (KeepsBasis h.basis)) }
     ensures leads { IfOk held (λ h. IsOfText h.basis → string_bytes h.basis.store ≡ store.now → IfOk result (λ _. LeadsFrom
         O.OpenStores store.now h.basis.agreed.agreements (O.Opened.shows records).IsClean
@@ -306,7 +303,7 @@ fn go_on<O: OpenStores>(
     run: RunOptions,
     held: Held,
     stores: &mut O,
-) -> Result<Option<Held>, CommandFault>
+) -> Result<Held, CommandFault>
     ensures basis { IfOk result (KeepsBasis held.basis) }
     ensures leads { IsOfText held.basis → IfOk result (λ _. LeadsOn O.OpenStores
         (string_bytes held.basis.store) held.basis.agreed.agreements run.first stores.old stores.new) }
@@ -321,22 +318,19 @@ fn go_on<O: OpenStores>(
 }
 
 /// How it is told what came of a station.
-fn told_of<E: Sink>(came: Result<Option<Held>, CommandFault>, errors: &mut E) -> Spanned
+fn told_of<E: Sink>(came: Result<Held, CommandFault>, errors: &mut E) -> Spanned
     ensures { TellsCame came result }
 {
     match came {
-        Ok(Some(held)) => Spanned::Shut(held),
-        Ok(None) => Spanned::Ended(Ran {
-            status: DONE,
-            told: true,
-        }),
-        Err(fault) => Spanned::Ended(refuse(fault, errors)),
+        Ok(held) if held.shell.is_shut() => Spanned::Shut(held),
+        Ok(held) => Spanned::Stopped(held),
+        Err(fault) => Spanned::Refused(refuse(fault, errors)),
     }
 }
 
 /// Runs a station, where the words ask for one, until it is stopped, or its store shuts. `held` is what it kept as its store shut, where
-/// it is to go on. Else it is refused as CannotListen where the address can't be listened on or its control socket can't be made, and as
-/// Memory where there is none to go on with; then the store is as a crash leaves it.
+/// it is to go on. Else it is refused as CannotListen where the address can't be listened on or its control socket can't be made. It is
+/// refused as Memory where there is none to go on with, and then the store is as a crash leaves it.
 pub fn run_station<F: ReadFiles, O: OpenStores, N, R, W, H: Write, E: Sink>(
     rt: &HostRuntime,
     words: &[&str],
@@ -366,7 +360,7 @@ pub fn run_station<F: ReadFiles, O: OpenStores, N, R, W, H: Write, E: Sink>(
     }
     let agreed = match agreed_text(alloc, &host.outside.files, options.agreements, console) {
         Ok(agreed) => agreed,
-        Err(ran) => return Spanned::Ended(ran),
+        Err(ran) => return Spanned::Refused(ran),
     };
     let records = match opened(alloc, options.store, *run, &mut host.stores) {
         Ok(records) => records,

@@ -1,9 +1,8 @@
 //! The loop.
-ghost use Rattle.std.specs.Prelude.{IfOk};
+ghost use Rattle.std.specs.Prelude.{◌≡◌, IfOk};
 ghost use Rattle.as2_live.specs.Living.{LivesOn};
 ghost use Rattle.as2_loop.specs.Running.{RunsOn};
 
-use crate::askers::{Askers, CONTROL, seat_of};
 use crate::bounds::{
     ACCEPTS, BYTES_OF_ALL, BYTES_OF_ONE, CONNECTIONS, CROWDED_IDLE, LOOK, PIECE, READS, REQUESTS,
     STOP, Waits,
@@ -15,6 +14,7 @@ use crate::noting::Notes;
 use crate::peer::{Peer, Phase};
 use crate::peers::{Fate, Went, fate_of, is_between, is_over, read, write};
 use crate::turns::Turns;
+use as2_askers::Askers;
 use as2_bounded::Bounded;
 use as2_control::{Outcome, outcome_frame, read_demand};
 use as2_exchange::StoreFault;
@@ -134,7 +134,7 @@ impl Shell {
         let poll = Poll::new(rt)?;
         let registry = poll.registry();
         registry.register(&mut socket, DOOR, Interest::READABLE)?;
-        registry.register(&mut askers.control.socket, CONTROL, Interest::READABLE)?;
+        askers.register(registry)?;
         let mut peers = Vec::new(alloc);
         for _ in 0..CONNECTIONS {
             peers.push(None)?;
@@ -188,7 +188,9 @@ impl Shell {
     }
 
     /// The records couldn't be reached.
-    pub(crate) fn is_shut(&self) -> bool {
+    pub(crate) fn is_shut(&self) -> bool
+        ensures { result ≡ self.now.is_shut }
+    {
         self.is_shut
     }
 
@@ -287,8 +289,8 @@ impl Shell {
             let token = event.token();
             if token == DOOR {
                 self.door.may_accept = true;
-            } else if token == CONTROL || seat_of(token).is_some() {
-                self.askers.mark(event);
+            } else if self.askers.mark(event) {
+                continue;
             } else if let Some(at) = link_of(token) {
                 self.sender.mark(at, event);
             } else if let Some(Some(peer)) = self.peers.get_mut(token.0) {

@@ -23,6 +23,9 @@ use std::process::ExitCode;
 use std::sync::ledger::{Blank, Ledger};
 use std::{env, fs, io};
 
+/// The exit status of what was done.
+const DONE: u8 = 0;
+
 /// The exit status of a fault of the store.
 const FAILED: u8 = 3;
 
@@ -36,10 +39,11 @@ struct Counts {
     failed: Blank,
 }
 
-/// What came of a command line: the exit status; or what a station keeps whose store has shut, and which is to go on.
+/// What came of a command line: the exit status; or what a station keeps that has stopped, or whose store has shut, and which is to go on.
 #[derive(Drop)]
 enum Came {
     Ended(u8),
+    Stopped(Held),
     Shut(Held),
 }
 
@@ -59,7 +63,8 @@ fn run_words<O: OpenStores, R: Source, W: Sink, H: Write + Journal + CountsBusy 
         }
     }
     match run_station(rt, words, held, host, console) {
-        Spanned::Ended(ran) => Came::Ended(ran.status),
+        Spanned::Refused(ran) => Came::Ended(ran.status),
+        Spanned::Stopped(held) => Came::Stopped(held),
         Spanned::Shut(held) => Came::Shut(held),
         Spanned::Elsewhere => {
             let ran = as2_desk::run(rt.alloc(), words, clock, host, console);
@@ -165,7 +170,8 @@ fn run_over_files<F: OpenFiles + Drop>(
     run_over_kept::<F::Disk, InFiles<F>>(rt, words, held, InFiles { opener }, hints)
 }
 
-/// Runs a command line, and a station whose store has shut again and again, until its store is open or it is stopped.
+/// Runs a command line, and a station whose store has shut again and again, until its store is open or it is stopped. Those who asked it to
+/// stop are told once its store's file is let go.
 fn run_until_ended(rt: &HostRuntime, words: &[&str]) -> io::Result<u8> {
     let mut held = None;
     for _ in 0..u64::MAX {
@@ -173,6 +179,10 @@ fn run_until_ended(rt: &HostRuntime, words: &[&str]) -> io::Result<u8> {
         let hints = Lines::new(lines, ProgressLine::new(rt));
         match run_over_files(rt, words, held, SystemFiles { start: Unknown }, hints) {
             Came::Ended(status) => return Ok(status),
+            Came::Stopped(held) => {
+                held.end();
+                return Ok(DONE);
+            }
             Came::Shut(left) => held = Some(left),
         }
     }

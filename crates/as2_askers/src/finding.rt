@@ -19,14 +19,14 @@ fn file_path(rt: &HostRuntime, store: &str) -> io::Result<String> {
 }
 
 /// The path at which the station over a store can be asked, or of a link to it: beside the store's file itself, where links lead.
-pub fn control_path(rt: &HostRuntime, store: &str) -> io::Result<String> {
+pub(crate) fn control_path(rt: &HostRuntime, store: &str) -> io::Result<String> {
     let mut path = file_path(rt, store)?;
     path.push_str(END)?;
     Ok(path)
 }
 
 /// The path of the link to its store's file that a socket at that path has which doesn't stand beside the store.
-pub fn store_link_path(rt: &HostRuntime, path: &str) -> io::Result<String> {
+pub(crate) fn store_link_path(rt: &HostRuntime, path: &str) -> io::Result<String> {
     let mut link = String::from_str(rt.alloc(), path)?;
     link.push_str(STORE)?;
     Ok(link)
@@ -42,7 +42,7 @@ fn is_of_store(rt: &HostRuntime, path: &str, store: &str) -> io::Result<bool> {
 }
 
 /// Connects to the station over a store. An error where none runs.
-pub(crate) fn connect(rt: &HostRuntime, store: &str) -> io::Result<UnixStream> {
+pub fn connect(rt: &HostRuntime, store: &str) -> io::Result<UnixStream> {
     let beside = control_path(rt, store)?;
     let Ok(path) = fs::read_link(rt, beside.as_str()) else {
         return UnixStream::connect(rt, beside.as_str());

@@ -1,7 +1,7 @@
 //! The socket at which a station can be asked: a file that is its owner's alone from the first moment at which it can be connected
 //! to.
 
-use as2_client::{control_path, store_link_path};
+use crate::finding::{control_path, store_link_path};
 use mio::net::UnixListener;
 use std::alloc::Global;
 use std::io::ErrorKind;
@@ -27,10 +27,10 @@ struct Links {
     to_store: String,
 }
 
-/// The socket, the path at which it stands, and the paths of the links, where they are made.
+/// The control socket, the path at which it stands, and the paths of the links, where they are made.
 #[derive(Drop)]
-pub(crate) struct Control {
-    pub socket: UnixListener,
+pub struct Control {
+    pub(crate) socket: UnixListener,
     path: String,
     links: Option<Links>,
 }
@@ -91,8 +91,9 @@ fn link_at(rt: &HostRuntime, path: &str, to: &str) -> io::Result<()> {
 
 impl Control {
     /// Makes the socket for a store that is open: at `wanted`, and links from the store to it and back; or beside the store, where none
-    /// is wanted. An error where a station answers at that path.
-    pub(crate) fn make(rt: &HostRuntime, store: &str, wanted: Option<&str>) -> io::Result<Control> {
+    /// is wanted. An error `AddrInUse` where a station answers at that path, `AlreadyExists` where something else stands there, or that of the
+    /// system.
+    pub fn make(rt: &HostRuntime, store: &str, wanted: Option<&str>) -> io::Result<Control> {
         let beside = control_path(rt, store)?;
         let Some(wanted) = wanted else {
             return Ok(Control {

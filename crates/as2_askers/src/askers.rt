@@ -1,9 +1,8 @@
 //! All who ask at the control socket.
 
-use crate::asker::{Asker, Asking};
-use crate::bounds::{ACCEPTS, ASKERS};
+use crate::asker::{Asker, Asking, Went};
+use crate::bounds::{ACCEPTS, SEATS};
 use crate::control::Control;
-use crate::peers::Went;
 use as2_control::{FrameFault, Outcome, outcome_frame};
 use mio::event::Event;
 use mio::net::UnixStream;
@@ -13,15 +12,15 @@ use std::io;
 use std::io::{ErrorKind, Write};
 
 /// The token of the control socket.
-pub(crate) const CONTROL: Token = Token(usize::MAX - 1);
+const CONTROL: Token = Token(usize::MAX - 1);
 
 /// The token of the first who asks; those of the others stand behind it.
-const FIRST: usize = usize::MAX - 1 - ASKERS;
+const FIRST: usize = usize::MAX - 1 - SEATS;
 
 /// The control socket, and who asks at it.
 #[derive(Drop)]
-pub(crate) struct Askers {
-    pub control: Control,
+pub struct Askers {
+    control: Control,
     may_accept: bool,
     /// The system had no connection to give.
     is_held_up: bool,
@@ -29,8 +28,8 @@ pub(crate) struct Askers {
 }
 
 /// The seat of a token, where it is that of somebody who asks.
-pub(crate) fn seat_of(token: Token) -> Option<usize> {
-    if token.0 < FIRST || token.0 >= FIRST + ASKERS {
+fn seat_of(token: Token) -> Option<usize> {
+    if token.0 < FIRST || token.0 >= FIRST + SEATS {
         return None;
     }
     Some(token.0 - FIRST)
@@ -38,16 +37,18 @@ pub(crate) fn seat_of(token: Token) -> Option<usize> {
 
 /// What was asked at a seat: the frame of the demand.
 #[derive(Drop)]
-pub(crate) struct Asked {
+pub struct Asked {
+    /// The seat.
     pub seat: usize,
+    /// The frame of the demand, as it came.
     pub frame: Vec<u8>,
 }
 
 impl Askers {
-    /// Nobody has asked yet.
-    pub(crate) fn new(alloc: Global, control: Control) -> io::Result<Askers> {
+    /// At this socket nobody has asked yet. An error where there is no memory for the seats.
+    pub fn new(alloc: Global, control: Control) -> io::Result<Askers> {
         let mut seats = Vec::new(alloc);
-        for _ in 0..ASKERS {
+        for _ in 0..SEATS {
             seats.push(None)?;
         }
         Ok(Askers {
@@ -58,19 +59,25 @@ impl Askers {
         })
     }
 
-    /// Notes what the system says of the control socket, or of a seat.
-    pub(crate) fn mark(&mut self, event: &Event) {
+    /// Has the system tell of the control socket.
+    pub fn register(&mut self, registry: &Registry) -> io::Result<()> {
+        registry.register(&mut self.control.socket, CONTROL, Interest::READABLE)
+    }
+
+    /// Notes what the system says of the control socket, or of a seat. False where it says nothing of these.
+    pub fn mark(&mut self, event: &Event) -> bool {
         if event.token() == CONTROL {
             self.may_accept = true;
-            return;
+            return true;
         }
         let Some(seat) = seat_of(event.token()) else {
-            return;
+            return false;
         };
         if let Some(Some(asker)) = self.seats.get_mut(seat) {
             asker.may_read = true;
             asker.may_write = true;
         }
+        true
     }
 
     /// A seat that nobody has.
@@ -91,8 +98,8 @@ impl Askers {
         None
     }
 
-    /// Accepts who waits, as far as there are seats.
-    pub(crate) fn accept(&mut self, alloc: Global, registry: &Registry, now: u64) {
+    /// Accepts who waits, as far as there are seats. `now` is in milliseconds, here and below.
+    pub fn accept(&mut self, alloc: Global, registry: &Registry, now: u64) {
         for _ in 0..ACCEPTS {
             if !self.may_accept {
                 return;
@@ -116,21 +123,20 @@ impl Askers {
     }
 
     /// Reads and writes at each seat, and lets those go who are done, broken, or too slow.
-    pub(crate) fn go_on(&mut self, buffer: &mut [u8], now: u64) {
+    pub fn go_on(&mut self, buffer: &mut [u8], now: u64) {
         for seat in &mut self.seats {
             let Some(asker) = seat else {
                 continue;
             };
-            let is_broken = asker.read(buffer, now) == Went::Broken
-                || asker.write(now) == Went::Broken;
-            if is_broken || asker.is_slow(now) {
+            let is_over = asker.read(buffer, now) == Went::Over || asker.write(now) == Went::Over;
+            if is_over || asker.is_slow(now) {
                 *seat = None;
             }
         }
     }
 
     /// Somebody waits for an answer, or has more to say or to hear at once.
-    pub(crate) fn has_more(&self) -> bool {
+    pub fn has_more(&self) -> bool {
         if self.may_accept && !self.is_held_up && self.free_seat().is_some() {
             return true;
         }
@@ -161,7 +167,7 @@ impl Askers {
     }
 
     /// What the one asked who has waited longest.
-    pub(crate) fn next_asked(&mut self, alloc: Global) -> Option<Asked> {
+    pub fn next_asked(&mut self, alloc: Global) -> Option<Asked> {
         let at = self.longest()?;
         let Some(Some(asker)) = self.seats.get_mut(at) else {
             return None;
@@ -173,21 +179,21 @@ impl Askers {
     }
 
     /// Tells the outcome at a seat by its frame.
-    pub(crate) fn answer(&mut self, seat: usize, frame: Vec<u8>, now: u64) {
+    pub fn answer(&mut self, seat: usize, frame: Vec<u8>, now: u64) {
         if let Some(Some(asker)) = self.seats.get_mut(seat) {
             asker.answer(frame, now);
         }
     }
 
     /// Lets the one at a seat go.
-    pub(crate) fn let_go(&mut self, seat: usize) {
+    pub fn let_go(&mut self, seat: usize) {
         if let Some(seat) = self.seats.get_mut(seat) {
             *seat = None;
         }
     }
 
     /// Takes the control socket away, and tells those who asked to stop that the station has stopped.
-    pub(crate) fn end(self, rt: &HostRuntime) {
+    pub fn end(self, rt: &HostRuntime) {
         let Askers { control, seats, .. } = self;
         control.remove(rt);
         let Ok(frame) = stopped_frame(rt.alloc()) else {

@@ -1,12 +1,20 @@
 //! Somebody who asks at the control socket: one demand is read, and one outcome is told.
 
-use crate::bounds::{ASKER_SILENCE, ASKER_WAIT, READS};
-use crate::peers::Went;
+use crate::bounds::{READS, SILENCE, WAIT};
 use as2_control::{MOST_BYTES, StillToCome, awaited};
 use mio::net::UnixStream;
 use std::alloc::Global;
 use std::io::{ErrorKind, Read, Write};
 use std::mem;
+
+/// How a read or a write ended.
+#[derive(Clone, Copy, Debug, PartialEq, Eq)]
+pub(crate) enum Went {
+    /// It goes on.
+    On,
+    /// It is over with whoever asks.
+    Over,
+}
 
 /// How far it is with somebody who asks.
 #[derive(Clone, Copy, Debug, PartialEq, Eq)]
@@ -65,19 +73,19 @@ impl Asker {
                     self.asking = Asking::Waits;
                     return Went::On;
                 }
-                StillToCome::Never => return Went::Broken,
+                StillToCome::Never => return Went::Over,
             };
             match self.stream.read(&mut buffer[..most]) {
-                Ok(0) => return Went::Broken,
+                Ok(0) => return Went::Over,
                 Ok(count) => {
                     self.moved = now;
                     if self.came.extend_from_slice(&buffer[..count]).is_err() {
-                        return Went::Broken;
+                        return Went::Over;
                     }
                 }
                 Err(error) if error.kind() == ErrorKind::WouldBlock => self.may_read = false,
                 Err(error) if error.kind() == ErrorKind::Interrupted => {}
-                Err(_) => return Went::Broken,
+                Err(_) => return Went::Over,
             }
         }
         Went::On
@@ -93,8 +101,8 @@ impl Asker {
     pub(crate) fn is_slow(&self, now: u64) -> bool {
         let wait = match self.asking {
             Asking::Waits | Asking::Stops => return false,
-            Asking::Speaks if self.came.is_empty() => ASKER_SILENCE,
-            _ => ASKER_WAIT,
+            Asking::Speaks if self.came.is_empty() => SILENCE,
+            _ => WAIT,
         };
         self.moved.saturating_add(wait) <= now
     }
@@ -106,7 +114,7 @@ impl Asker {
         self.moved = now;
     }
 
-    /// Writes of the outcome what the system takes. Broken too once all of it went.
+    /// Writes of the outcome what the system takes. Over too once all of it went.
     pub(crate) fn write(&mut self, now: u64) -> Went {
         for _ in 0..READS {
             if !self.may_write || self.asking != Asking::Hears {
@@ -114,17 +122,17 @@ impl Asker {
             }
             let rest = &self.reply[self.sent.min(self.reply.len())..];
             if rest.is_empty() {
-                return Went::Broken;
+                return Went::Over;
             }
             match self.stream.write(rest) {
-                Ok(0) => return Went::Broken,
+                Ok(0) => return Went::Over,
                 Ok(count) => {
                     self.sent = self.sent.saturating_add(count);
                     self.moved = now;
                 }
                 Err(error) if error.kind() == ErrorKind::WouldBlock => self.may_write = false,
                 Err(error) if error.kind() == ErrorKind::Interrupted => {}
-                Err(_) => return Went::Broken,
+                Err(_) => return Went::Over,
             }
         }
         Went::On

@@ -1,0 +1,16 @@
+//! How many may ask, how much is done for them in one turn, and how long one of them is waited for.
+
+/// How many may ask at once.
+pub(crate) const SEATS: usize = 16;
+
+/// How many are accepted in one turn.
+pub(crate) const ACCEPTS: usize = 64;
+
+/// Reads or writes for one of them in one turn.
+pub(crate) const READS: usize = 4;
+
+/// How long one is waited for, in milliseconds.
+pub(crate) const WAIT: u64 = 30_000;
+
+/// .. and where nothing was said yet.
+pub(crate) const SILENCE: u64 = 2_000;
