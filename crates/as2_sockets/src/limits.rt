@@ -30,8 +30,8 @@ impl Limits {
         }
     }
 
-    /// How long the next wait may last, so long after the connection began. None where nothing is left: never a wait of no
-    /// length, which a socket takes for one without an end.
+    /// How long the next wait may last, so long after the connection began. None where nothing is left. A wait of no
+    /// length is never given, since a socket takes it for one without an end.
     pub fn left(&self, elapsed: Duration) -> Option<Duration>
         ensures { option_map as_nanos result
             ≡ wait_left (as_nanos self.now.wait) (as_nanos self.now.whole) (as_nanos elapsed) }
