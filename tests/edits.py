@@ -36,6 +36,7 @@ CONTROL = "(control)"
 FUNCTION = re.compile(r"( *)(?:pub(?:\([^)]*\))? )?(?:(?:const|unsafe|final) )*fn (\w+)")
 BLOCK = re.compile(r"(?:pub(?:\([^)]*\))? )?(?:unsafe )?(impl|trait)\b")
 BODY = re.compile(r"^( *)\{\n", re.M)
+HEAD = re.compile(r"\A( *)fn [^\n]*\{\n")
 HEADER = re.compile(r".*?\b(?:impl|trait)\s+(?:[\w:]*?(\w+)\s+for\s+)?[&\s]*[\w:]*?(\w+)\b", re.S)
 VERDICT = re.compile(r"([a-z]+) (\S+): ((?:proved|not proved|no proof|not stated).*)")
 ERROR = re.compile(r"(?:\./)?proofs/(\S+)/\w+\.antt:\d+:\d+: error: (.*)")
@@ -220,19 +221,21 @@ class Crate:
         return frozenset(names)
 
     def control(self, edits):
-        """Returns an edit that means the same as before, of the shortest function with a clause that no other edit changes; None
-        where there is none."""
+        """Returns an edit that means the same as before, of the shortest function with a clause that no other edit changes, or else of the
+        shortest without one of its own, whose clauses stand in a trait; None where there is none."""
         taken, found = set().union(*(it.functions for it in edits)), []
         for file, source in self.texts.items():
             for it in functions_of(self.name, file, source) if file.endswith(".rt") else ():
                 text = source[it.begin:it.end]
                 names = {name for name in self.proved if it.names.fullmatch(name)}
-                if names and not names & taken and "ensures" in text and BODY.search(text):
-                    found.append((len(text), file, text))
+                is_own = "ensures" in text
+                body = (BODY if is_own else HEAD).search(text)
+                if names and not names & taken and body:
+                    found.append((not is_own, len(text), file, text, body.end(), body.group(1)))
         if not found:
             return None
-        _, file, text = min(found)
-        made = Edit(self.name, CONTROL, [(file, text, BODY.sub(r"\g<0>\1    let _ = ();\n", text, count=1))])
+        _, _, file, text, at, indent = min(found)
+        made = Edit(self.name, CONTROL, [(file, text, f"{text[:at]}{indent}    let _ = ();\n{text[at:]}")])
         made.functions = self.functions_in(made)
         return made
 

@@ -1,5 +1,5 @@
-//! Records that can't be reached: each call is a fault of the disk. A station whose store has shut answers over them until the store is
-//! open again.
+//! Records that can't be reached: each call is a fault of the disk, or Full where the number is past the last. A station whose store has
+//! shut answers over them until the store is open again.
 #![tactic(auto)]
 
 mod shut;
