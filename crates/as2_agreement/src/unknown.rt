@@ -102,8 +102,8 @@ fn unknown_of(alloc: Global, document: &Table) -> Option<Unknown>
 }
 
 impl Agreements {
-    /// A key of a text that agreements don't have, the first as keys are sorted, in the document, then in its organizations, then in its
-    /// partners; None where there is none, the text is no document, or memory was wanting.
+    /// A key of a text that agreements don't have. It is the first as keys are sorted, in the document, then in its organizations, then
+    /// in its partners. None where there is no such key, the text is no document, or memory was wanting.
     pub fn unknown_key(alloc: Global, text: &str) -> Option<Unknown>
         ensures { IfSome result IsUnknown }
     {

@@ -27,7 +27,7 @@ pub enum Fault {
     DetailDiffers,
     /// The number of an entry isn't below the next one of its box: it was never given.
     NeverGiven,
-    /// What is kept of what an entry waits for isn't what the entry says.
+    /// What an entry waits for is kept otherwise than the entry says.
     WaitsOtherwise,
 }
 

@@ -103,9 +103,9 @@ fn settled_fault(migrated: bool, document: &OutEntry) -> Result<Option<Fault>, M
     evidence_fault(migrated, document, evidence)
 }
 
-/// What is wrong with a document that is sent: one that was tried was begun, and what is kept of its receipt is what its detail says (RFC
-/// 4130, sections 7.4 and 7.5; RFC 8098, section 3). Where the records were migrated, the receipt may be of before. Memory where none is left
-/// for the receipt.
+/// What is wrong with a document that is sent. One that was tried has to be begun. What is kept of its receipt has to be what its detail
+/// says (RFC 4130, sections 7.4 and 7.5; RFC 8098, section 3). Where the records were migrated, the receipt may be of before. Memory
+/// where none is left for the receipt.
 pub fn sent_fault(migrated: bool, document: &OutEntry) -> Result<Option<Fault>, Memory>
     ensures { IfOk result (λ fault. fault ≡ sent_fault migrated document.now) }
 {

@@ -72,8 +72,8 @@ fn lines(alloc: Global, findings: &[Finding], received: u64, sent: u64) -> Resul
     Ok(text)
 }
 
-/// Looks through all entries of the records: what of each can be told wrong by its own words, those that were received first, each in
-/// order of number, and behind them the first that doesn't agree with what is kept beside it. Answers Memory, Disk or Refused.
+/// Looks through all entries of the records, those that were received first, each in order of number. Of each it tells what is wrong
+/// by its own words. Behind them it tells the first that doesn't agree with what is kept beside it. Answers Memory, Disk or Refused.
 pub fn verify<R: Records, W: Watch>(
     records: &mut R,
     alloc: Global,

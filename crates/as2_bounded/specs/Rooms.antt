@@ -1,8 +1,8 @@
 -- Room for contents: how much of it one takes, and when there is none.
 use Rattle.std.specs.Prelude.{◌+◌, ◌-◌, ◌*◌, ◌/◌, ◌^◌, ℕ, min, nat_lt, Option, Some, None, if◌then◌else◌}
 
--- how many bytes of a store's files a content of so many bytes is reckoned to take: itself; a thirty-second of it for what each page has
--- of its own; the rest of its last page, which is as long as itself at most; and its rows
+-- The bytes of a store's files that a content of so many bytes is reckoned to take: itself, and a thirty-second of it for what each page
+-- has of its own. Then the rest of its last page, which is as long as itself at most, and its rows.
 abbrev pub reckoned_size : ℕ → ℕ
 reckoned_size length = length + length / 32 + min length 2304 + 512
 

@@ -16,8 +16,8 @@ pub record GivenServing : Type 0 where
   pub waits : ServingWaits
   pub moment : Option ℕ
 
--- a station that runs: the address that is listened on, the path at which it can be asked, the waits for a peer, where receipts may be sent,
--- and the moment of all that it answers, if these are given
+-- A station that runs: the address that is listened on, and the waits for a peer. Where they are given: the path at which it can be asked,
+-- where receipts may be sent, and the moment of all that it answers.
 pub record GivenOperating : Type 0 where
   pub address : List ℕ
   pub control : Option (List ℕ)

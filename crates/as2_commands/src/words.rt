@@ -13,9 +13,9 @@ use clap::error::ErrorKind;
 use clap::{ArgMatches, Command, Error};
 use std::alloc::{AllocError, Global};
 
-/// What the words ask for, which begin with the program's name, or what there is to say in place of it: a fault, the
-/// help or the version, as the error's kind tells. `clock` is the moment where the options give none, in seconds
-/// since 1970, if it can be told.
+/// What the words ask for, which begin with the program's name. Or what there is to say in place of it: a fault, the
+/// help or the version, as the error's kind tells. `clock` is the moment where the options give none, in seconds since
+/// 1970, if it can be told.
 pub fn options_in<'a>(
     alloc: Global,
     words: &'a [&'a str],

@@ -1,5 +1,5 @@
-//! The two ends of a connection that is served. Behind a reply its peer is waited for a shorter while, and is at its end where nothing more
-//! comes: so a client that keeps its connection open holds up no other for long (RFC 9112, section 9.8).
+//! The two ends of a connection that is served. Behind a reply the wait for its peer is shorter. Where nothing more comes then, the peer is
+//! at its end. So a client that keeps its connection open holds up no other for long (RFC 9112, section 9.8).
 
 use crate::network::Stream;
 use std::cell::Cell;

@@ -71,8 +71,8 @@ pub record ServesConnections {M : Medium} (old new : Standing M) (Ended : List S
   pub led : new.IsClean → (s : State) → old.Rests s → (t : State) × new.Rests t × Led ends s t
   pub lines : Writes ends
 
--- Connections with these ends were awaited at that address. Where the state is known that the records stood for, the posts that they
--- brought led from it to one that what is left stands for (Left).
+-- Connections with these ends were awaited at that address. Where the state is known that the records stood for, their posts led
+-- from it to a state that what is left stands for (Left).
 abbrev pub AwaitsFrom : Option State → (State → Type 0) → ListenerSeen → List ℕ → List Served → Type 0
 AwaitsFrom None Left l address ends = l.Awaited address ends
 AwaitsFrom (Some s) Left l address ends = (t : State) × Left t × l.Led address ends s t

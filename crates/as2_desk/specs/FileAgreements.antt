@@ -17,7 +17,8 @@ AgreementsResult = Result AgreedValues CommandFault
 abbrev pub IsOutOfMemory : AgreementsResult → Type 0
 IsOutOfMemory reading = reading ≡ Err (refusal.Agreements fault.Memory)
 
--- the bytes are a text that has the agreements, or that fault first; bytes that are no text are no TOML; no other refusal comes of bytes
+-- The bytes are a text that has the agreements, or that fault first. Bytes that are no text are no TOML. No other refusal comes of
+-- bytes.
 abbrev pub AreReadAs : List ℕ → AgreementsResult → Type 0
 AreReadAs bytes (Ok agreements) = IsUtf8 bytes × (agreements_reading bytes ≡ Ok agreements)
 AreReadAs bytes (Err (refusal.Agreements e)) = (IsUtf8 bytes × (agreements_reading bytes ≡ Err e)) ⊎ (¬ IsUtf8 bytes × (e ≡ fault.NotToml))

@@ -12,7 +12,7 @@ pub record SaysFaulty (errors : WriterSeen) (ran : Ran) : Type 0 where
   pub some : text ≢ []
   pub said : WritesIf ran.told errors text
 
--- a text that isn't empty is printed, or a write failed behind a part of it, and one line says so; or memory for it was wanting, and
--- nothing is printed
+-- A text that isn't empty is printed. Or a write failed behind a part of it, and one line says so. Or memory for it was wanting, and
+-- nothing is printed.
 abbrev pub Helps : WriterSeen → WriterSeen → Ran → Type 0
 Helps output errors ran = ((text : List ℕ) × (text ≢ []) × Prints (Ok text) output errors ran) ⊎ (output.Untouched × EndsRefused Memory errors ran)

@@ -31,9 +31,9 @@ pub record HasCause (end : Served) (input : Input) (output : WriterSeen) : Type 
   pub reads : input.later ≤ input.calls + most_reads
   pub too_long : end ≡ TooLong → input.later ≡ input.calls + most_reads
 
--- Where the state is known that the records stood for, what is left stands for the one that posts at this moment led to; and
--- where the reader tells its bytes, these were the posts among the requests that it begins with, and their replies were written,
--- and noted in a journal that held and holds that. Status and line tell the end, which has its cause.
+-- Where the state is known that the records stood for, what is left stands for the state that posts at this moment led to.
+-- Where the reader also tells its bytes, these were the posts among the requests that it begins with. Their replies were
+-- written, and noted in a journal that held and holds that. Status and line tell the end, which has its cause.
 pub record Posts (agreements : AgreedValues) (moment : ℕ) (known : Option State) (input : Input) (o : Outcome) (ran : Ran) : Type 0 where
   pub noted : Option (List ℕ)
   pub new : Option (List ℕ)

@@ -107,8 +107,8 @@ told_by A m (Outstanding format) s = Some (Ok (outstanding_in format s m), s)
 told_by A m (Show n format) s = Some (found_told (show_in format s n), s)
 told_by A m (Fetch n) s = Some (found_told (fetch s n), s)
 
--- That is told in the state s, and t is left: what the machine and the views answer there; or a fault of the store, which
--- changes nothing, and is Full only where no number is left.
+-- That is told in the state s, and t is left. It is what the machine and the views answer there, or a fault of the store.
+-- A fault changes nothing, and is Full only where no number is left.
 abbrev pub Tells : AgreedValues → ℕ → QuestionInHand → State → State → ToPrint → Type 0
 Tells A m q s t (Err (Store fault)) = (t ≡ s) × (fault ≡ open_fault.Store store_fault.Full → told_by A m q s ≡ None)
 Tells A m q s t told = told_by A m q s ≡ Some (told, t)
@@ -144,15 +144,15 @@ EndsByEvent A m Tick s t told = EndsBy A Tick (event.Tick m) s t told
 EndsByEvent A m (Resend n) s t told = EndsBy A (Resend n) (event.Resend n m) s t told
 EndsByEvent A m other s t told = ⊤
 
--- the text is written, once; or a write failed, of the text a part is written, and one line says so; or one line says why there is
--- none, and nothing is written
+-- The text is written, once. Or a write failed: of the text a part is written, and one line says so. Or one line says why there is
+-- no text, and nothing is written.
 abbrev pub Prints : ToPrint → WriterSeen → WriterSeen → Ran → Type 0
 Prints (Ok text) output errors ran = (WritesWhole output text × Ends status_done (codes "") errors ran) ⊎ (Breaks output text × EndsRefused CannotWrite errors ran)
 Prints (Err refusal) output errors ran = output.Untouched × EndsRefused refusal errors ran
 
 -- Something was told: why it is refused, where that takes no store; or a fault of the store, of those that may come; or an
--- answer. Where the state is known that the records stood for, it is what is told there, and what is left stands for the state
--- that this leaves, and for the history of the event, where it is one.
+-- answer. Where the state is known that the records stood for, that is what is told there. What is left stands for the state
+-- that this leaves. Where the question is an event, what stands of each document then is its history.
 pub record AnswersQuestion (agreements : AgreedValues) (moment : ℕ) (question : QuestionInHand) (known : Option State) (o : Outcome) (ran : Ran) : Type 0 where
   pub told : ToPrint
   pub refused : (reason : Refusal) → refusal_to agreements question ≡ Some reason → told ≡ Err (Station reason)

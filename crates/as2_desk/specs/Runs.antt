@@ -21,8 +21,8 @@ use Rattle.as2_commands.specs.declared.tasks.Task.{Task}
 use Rattle.as2_commands.specs.declared.tasks.Task.TheVariants.{Check, Migrate, Verify, GatherEvidence, Run, Operate, Stop}
 use Rattle.as2_commands.specs.declared.tasks.Command.TheVariants.{Send, Serve}
 
--- the members were counted on standard output, and what to be warned of is said; or a write failed behind a part of that line; or
--- memory for it was wanting, and nothing is written
+-- The members were counted on standard output, and the warnings are said. Or a write failed behind a part of that line. Or memory
+-- for it was wanting, and nothing is written.
 abbrev pub PrintsCounts : AgreedValues → WriterSeen → WriterSeen → Ran → Type 0
 PrintsCounts agreements output errors ran =
     (WritesWhole output (counts_line agreements) × Ends status_done (warnings agreements) errors ran)

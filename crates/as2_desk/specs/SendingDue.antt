@@ -21,9 +21,9 @@ TellsSent (sent.Refused reason) errors ran = EndsRefused (Station reason) errors
 TellsSent (sent.Failed fault) errors ran = EndsRefused (Store (open_fault.Store fault)) errors ran
 TellsSent sent.Unwritten errors ran = EndsRefused CannotWrite errors ran
 
--- Where the state is known that the records stood for, what was due was sent from it, and what is left stands for the state that
--- this led to; and what went over the links (Exchanged) are its jobs, each with the outcome that was taken. It ends for a line that
--- couldn't be written where a write failed, and only there.
+-- Where the state is known that the records stood for, what was due was sent from it. What is left stands for the state that this
+-- led to. What went over the links (Exchanged) are its jobs, each with the outcome that was taken. It ends for a line that couldn't
+-- be written where a write failed, and only there.
 pub record SendsDue (agreements : AgreedValues) (moment : ℕ) (known : Option State) (o : Outcome)
     (Exchanged : List Exchange → Type 0) (ran : Ran) : Type 0 where
   pub end : Sent

@@ -16,8 +16,8 @@ abbrev pub ByPlace : Bool → Type 0 → Type 0 → Type 0
 ByPlace true InMemory Kept = InMemory
 ByPlace false InMemory Kept = Kept
 
--- the store begins with that state: one in memory with no entry, and this first number; another with what is kept, or is made with
--- that number (Keeps), on a medium that returned what was written until the store was closed (Clean)
+-- The store begins with that state. One in memory begins with no entry, and this first number. Another begins with what is kept,
+-- or is made with that number (Keeps). Its medium returned what was written until the store was closed (Clean).
 abbrev pub StoreBegins : List ℕ → ℕ → Type 0 → (ℕ → State → Type 0) → State → Type 0
 StoreBegins path first Clean Keeps s = ByPlace (is_in_memory path) (s ≡ empty (LaterVersion 0) first) (Keeps first s × Clean)
 

@@ -19,8 +19,8 @@ use Rattle.as2_host.specs.declared.stores.OpenFault.TheVariants as open_fault
 abbrev pub audit_status : ℕ → ℕ
 audit_status found = if found == 0 then status_done else status_refused
 
--- the lines are written, and the status tells whether there is a finding; or a write failed behind a part of them; or a fault of the store
--- is told, and nothing is written
+-- The lines are written, and the status tells whether there is a finding. Or a write failed behind a part of them. Or a fault of the store
+-- is told, and nothing is written.
 abbrev pub PrintsAudit : Result Verification StoreFault → WriterSeen → WriterSeen → Ran → Type 0
 PrintsAudit (Ok audit) output errors ran =
     (WritesWhole output audit.text.items × Ends (audit_status audit.findings) (codes "") errors ran) ⊎ (Breaks output audit.text.items × EndsRefused CannotWrite errors ran)

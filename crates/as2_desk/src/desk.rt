@@ -37,11 +37,11 @@ use clap::error::ErrorKind;
 use std::alloc::Global;
 use std::io::Write;
 
-/// Runs the command line `words`, which begin with the program's name. `clock` is the moment where the options give
-/// none, in seconds since 1970, if it can be told. The agreements, and the document of a submission, are read from the host's
-/// files, and the files of evidence are made there; a store is opened from its stores, and closed, or is in memory where its path is `:memory:`. What the command has to
-/// say goes to the console's output; why something was refused or is faulty, to its errors; why a try failed and what wasn't
-/// looked at, to its hints, where replies are noted, too.
+/// Runs the command line `words`, which begin with the program's name. `clock` is the moment where the options give none, in seconds since 1970, if
+/// it can be told. The agreements, and the document of a submission, are read from the host's files, and the files of evidence are made there. A
+/// store is opened from its stores, and closed. Where its path is `:memory:`, it is in memory. What the command has to say goes to the console's
+/// output. Why something was refused or is faulty goes to its errors. Why a try failed and what wasn't looked at goes to its hints, where replies are
+/// noted, too.
 pub fn run<
     F: ReadFiles + MakeFiles,
     O: OpenStores,

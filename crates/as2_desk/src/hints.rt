@@ -1,5 +1,6 @@
-//! What may help whoever looks on, a line each: what is given and not looked at, which file can't be read, how many replies were 503
-//! and how many documents were refused by the limit of the store. `places` has the lines on agreements, and `as2_sending` those on tries.
+//! What may help whoever looks on, a line each: what is given and not looked at, and which file can't be read. Also how many replies were
+//! 503, and how many documents were refused by the limit of the store. `places` has the lines on agreements, and `as2_sending` those on
+//! tries.
 ghost use Rattle.std.specs.Prelude.{◌≡◌, OnOk, true};
 ghost use Rattle.std.specs.Io.KnownBytes.{Appends};
 ghost use Rattle.as2_desk.specs.Hints.{busy_hint, file_hint, file_hint_if, idle_hint, limit_hint};

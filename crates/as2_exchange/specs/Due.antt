@@ -61,8 +61,8 @@ next_of None None = None
 abbrev pub next : State → ℕ → Option Next
 next s m = next_of (least (due_receipts s m)) (least (due_documents s m))
 
--- what may be told to be next: a due receipt of the least number; a due document of the least number, where no receipt is
--- due; nothing, where nothing is due
+-- What may be told to be next: a due receipt of the least number. Where no receipt is due, a due document of the least
+-- number. Where neither is due, nothing.
 abbrev pub IsNext : State → ℕ → Option Next → Type 0
 IsNext s m None = (due_receipts s m ≡ []) × (due_documents s m ≡ [])
 IsNext s m (Some (Receipt n)) = IsLeast (due_receipts s m) (Some n)

@@ -47,8 +47,8 @@ is_by_receipt MicDiffers = true
 is_by_receipt TriesUsed = false
 is_by_receipt Overdue = false
 
--- a document has evidence exactly where a receipt gave its detail, and then no try is open and nothing is waited for; one that
--- was tried is begun
+-- A document has evidence exactly where a receipt gave its detail. Then no try is open, and nothing is waited for. One that
+-- was tried is begun.
 pub record IsEntry (d : OutEntry) : Type 0 where
   pub evidence : is_settled d ≡ is_by_receipt d.detail
   pub at_rest : is_settled d ≡ true → (d.attempt ≡ Idle) × (d.due ≡ None)

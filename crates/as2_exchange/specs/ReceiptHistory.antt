@@ -21,7 +21,7 @@ abbrev pub post_of : Version → ℕ → Posted → ℕ → PostReading → Opti
 post_of v n p m (IsDocument q) = if repeats (origin_of v) n p q then Some (APost m) else None
 post_of v n p m other = None
 
--- A try of receipt n is a BeginMdn of n that was answered by a Job.
+-- A try of receipt n is a BeginReceipt of n that was answered by a Job.
 abbrev pub receipt_fact_of : Agreements → ℕ → Posted → Version → Answer → Event → Option ReceiptFact
 receipt_fact_of A n p v answer (Post head body m) = post_of v n p m (post_reading A (known_digests v) head body)
 receipt_fact_of A n p v answer (BeginReceipt k m) = if k == n && is_job answer then Some (OfATry (ATry m)) else None

@@ -21,7 +21,8 @@ with_outcome t = (t, first_of outcome_in t.after)
 abbrev pub last_tried : List Fact → Option TryWithOutcome
 last_tried facts = option_map with_outcome (last_of try_in facts)
 
--- a try is open where it is the last one, has no Outcome, and no receipt came; by its number it is the last agreed one or not
+-- A try is open where it is the last one, has no Outcome, and no receipt came. Its number tells whether it is the last agreed
+-- one.
 abbrev pub attempt_of : Partner → ℕ → Option (ℕ × ReceivedReceipt) → Option TryWithOutcome → Attempt
 attempt_of p tried (Some r) l = Idle
 attempt_of p tried None None = Idle
@@ -42,8 +43,9 @@ due_after_delivery Sync p tried m after = due_after_failure p tried m
 abbrev pub queued_from : Submission → List Fact → ℕ
 queued_from d facts = option_map_or (λ (r : FoundAt ℕ Fact). r.it) (last_of resend_in facts) d.moment
 
--- When something is due: nothing once a receipt came; the first try at the moment from which on it is to be sent; the next try, or
--- the end of the last one, after the last try at moment t; what its Outcome calls for after that.
+-- When something is due. Once a receipt came: nothing. Before any try: the first one, at the moment from which on it is to be sent.
+-- Behind the last try, at moment t: the next one, or the end of the last one, until a Tick has come to that. Behind its Outcome:
+-- what that calls for.
 abbrev pub due_of : ℕ → Partner → ℕ → Option (ℕ × ReceivedReceipt) → Option TryWithOutcome → Option ℕ
 due_of from p tried (Some r) l = None
 due_of from p tried None None = Some from

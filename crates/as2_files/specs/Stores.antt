@@ -20,7 +20,8 @@ use Rattle.as2_store.specs.Stands.{Rests}
 use Rattle.as2_files.specs.declared.keeping.End.{End}
 use Rattle.as2_files.specs.declared.keeping.End.TheVariants.{Closed, Left}
 
--- a store was found in files that held that: where all that is read is what had been written, it is open, and stands for what they held
+-- A store was found in files that held that. Where all that is read is what had been written, it is open, and stands for what they
+-- held.
 abbrev pub IsFound : Image → Connected → Type 0
 IsFound image c = HasCleanDisk c → IsTrue c.is_open × ((s : State) → HoldsState image s → Rests c s)
 
@@ -29,8 +30,8 @@ abbrev pub records_of_store : {D : Type 0} {g : Ghosts D} → Held (FileStore D 
 records_of_store c = tables_standing (file_state c)
 
 module _ {D R : Type 0} {M : Medium} (g : Ghosts D) (shows : R → Standing M) (LeftOf : R → Files D → Type 0) where
-  -- the files into which records were closed hold that state; the files of some that couldn't be closed, and stood for it, are what was
-  -- left of them
+  -- The files into which records were closed hold that state. Where records couldn't be closed, they stood for that state, and the
+  -- files are what was left of them.
   abbrev pub EndsIn : End D → State → Type 0
   EndsIn (Closed files) s = AreClosed g files s
   EndsIn (Left files) s = (records : R) × (shows records).Rests s × LeftOf records files

@@ -1,4 +1,4 @@
-//! Why the files of a store can't be opened, where the library that opens them says no more than that it couldn't: the file system is
+//! Why the files of a store can't be opened. The library that opens them may say only that it couldn't. Then the file system is
 //! asked.
 ghost use Rattle.std.specs.Prelude.{◌≡◌, ◌⊎◌, ◌≢◌};
 ghost use Rattle.as2_exchange.specs.declared.fault.StoreFault.TheVariants.{Refused};

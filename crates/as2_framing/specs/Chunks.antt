@@ -93,8 +93,8 @@ pub record IsTooLarge (text : List ℕ) : Type 0 where
   pub line : HasLine at size after
   pub large : body_limit < length bytes + size
 
--- Behind whole chunks what can be none any more, however the text goes on: no chunk line, bytes behind which no CR LF comes, or a
--- trailer that is too long.
+-- The text can't become a chunked body any more, however it goes on. Behind whole chunks stands no chunk line, a chunk behind
+-- which no CR LF comes, or a trailer that is too long.
 pub data IsBadChunk (text : List ℕ) : Type 0 where
   bad_line : (at bytes : List ℕ) (behind : IsBehind text at bytes) (never : NeverHasLine at) → IsBadChunk text
   bad_end : (at bytes chunk after rest : List ℕ) (behind : IsBehind text at bytes) (line : HasLine at (length chunk) after) (some : 0 < length chunk)

@@ -21,7 +21,8 @@ abbrev pub GivesReply : ℕ → Form → HttpAnswer → Bool → List ℕ → Bo
 GivesReply moment form answer may_stay text stays = (IsReply moment form answer text × (stays ≡ may_stay)) ⊎ ((text ≡ []) × (stays ≡ false))
 
 module _ (A : AgreedValues) (moment : ℕ) where
-  -- in the state s the request gets a response, which leaves t, a state that is Safe where the records were asked; and that is its reply
+  -- In the state s the request gets a response, and that is its reply. The response leaves t, a state that is Safe where the records
+  -- were asked.
   pub record AnswersRequest (s t : State) (Safe : State → Type 0) (r : Request) (text : List ℕ) (stays : Bool) : Type 0 where
     pub response : Response
     pub responds : Responds A moment s r response Safe t
@@ -32,8 +33,8 @@ module _ (A : AgreedValues) (moment : ℕ) where
     pub clean : new.IsClean → old.IsClean
     pub answers : new.IsClean → (s : State) → old.Rests s → (t : State) × new.Rests t × AnswersRequest s t (IsSafe new) r text stays
 
--- At its moment and over its agreements the station answers a request, and asks nothing of its records but for a post to its path; bytes
--- that no request begins with get their reply, and change nothing.
+-- At its moment and over its agreements the station answers a request. It asks its records only for a post to its path. Bytes that no
+-- request begins with get their reply, and change nothing.
 abbrev pub AnswersAt : {M : Medium} {K : Type 0} → (K → Standing M) → StationDesk K → Beginning → List ℕ → Bool → StationDesk K → Type 0
 AnswersAt shows d (beginning.Request r) text stays e =
     (e ≡ record d { station = e.station }) × (is_for_station r.method r.target ≡ false → e ≡ d)

@@ -41,8 +41,8 @@ LosesNone (Goes c piece ∷ h) = LosesNone h
 LosesNone (Closes c ∷ h) = LosesNone h
 
 module _ (A : AgreedValues) (moment : ℕ) where
-  -- what a connection begins with gets that in the state s, which leaves t: a request gets its response and its reply; bytes that no
-  -- request begins with get their reply, and change nothing
+  -- What a connection begins with gets that in the state s, which leaves t. A request gets its response and its reply. Bytes that no
+  -- request begins with get their reply, and change nothing.
   abbrev pub GetsAnswer : State → State → Beginning → DeskCall → List RequestAndResponse → Type 0
   GetsAnswer s t (beginning.Request r) e now = (it : AnswersRequest A moment s t Unsaid r e.reply e.stays) × (now ≡ (r, it.response) ∷ [])
   GetsAnswer s t (beginning.NoRequest refused) e now =
@@ -55,8 +55,8 @@ module _ (A : AgreedValues) (moment : ℕ) where
       × GetsAnswer mid t e.asked e now × (done ≡ before ++ now)
 
 module _ {M : Medium} {K : Type 0} (shows : K → Standing M) where
-  -- Where the records stood for the state s: the calls of the rounds that were kept, and no other, were answered one after the other; their
-  -- posts, in that order, led the machine to the state that the records now stand for; and what stands of each document is its history.
+  -- Where the records stood for the state s, the calls of the rounds that were kept, and no other, were answered one after the other. Their
+  -- posts, in that order, led the machine to the state that the records now stand for. What stands of each document is its history.
   pub record ServesFrom (old new : StationDesk K) (h : Happenings) (s : State) : Type 0 where
     pub done : List RequestAndResponse
     pub left : State

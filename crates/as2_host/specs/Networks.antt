@@ -18,7 +18,8 @@ pub record ListenerSeen : Type 1 where
   pub Refused : Type 0
   -- it gave one, and got it back as it had been
   pub Opened : Type 0
-  -- it gave one that is bound to that address, connections of it ended so, one after the other, and it got it back as it was then
+  -- It gave one that is bound to that address. Connections of that one ended so, one after the other, and the network got it back
+  -- as it was then.
   pub Awaited : List ℕ → List Served → Type 0
   -- .. and the posts that they brought led the machine from the one state to the other
   pub Led : List ℕ → List Served → State → State → Type 0
@@ -36,7 +37,8 @@ module _ {Listener : Type 0} (ended : Listener → Option ℕ → Trace → Serv
   ServesEach A (end ∷ more) l s m t = (k : Listener) × (u : State) × ServesOne A given (λ trace. ended l given trace end k) s u × ServesEach A more k u m t
 
 module _ {Network Listener Links : Type 0} (n : Networks Network Listener Links) where
-  -- a network that was so, and is so, was asked once: for a listener where the words say, with their waits; and was given it back
+  -- Of a network that was `old` and is `new`: it was asked once, for a listener where the words say, with their waits, and was
+  -- given that back.
   abbrev pub listening_of : Listeners Listener → Network → Network → AgreedValues → GivenServing → ListenerSeen
   listening_of l old new A serving = record {
     Refused = n.refuses old serving.address serving.waits new;
@@ -47,7 +49,7 @@ module _ {Network Listener Links : Type 0} (n : Networks Network Listener Links)
         × (address ≡ l.bound first) × ServesEach l.ended serving.moment A ends first s last t × n.stops mid last new;
   }
 
-  -- a network that was so, and is so, was asked once: for links that are opened with these waits; they gave these exchanges, and it
-  -- was given them back
+  -- Of a network that was `old` and is `new`: it was asked once, for links that are opened with these waits. They gave these
+  -- exchanges, and it was given them back.
   abbrev pub ExchangedOver : LinkGhosts Links → Network → Network → Waits → List Exchange → Type 0
   ExchangedOver l old new waits made = (first : Links) × (last : Links) × (mid : Network) × n.opens old waits first mid × Exchanges l.answers first made last × n.closes mid last new

@@ -6,7 +6,8 @@ use Rattle.as2_exchange.specs.State.{State}
 use Rattle.as2_http.specs.StreamReads.{RunsPosts}
 use Rattle.as2_http.specs.Streams.{stream_events}
 
--- the posts that a connection brought (Brought), at one moment, and nothing else, led the machine from s to t; it is that moment where one is given
+-- The posts that a connection brought (Brought), at one moment, and nothing else, led the machine from s to t. Where a moment is given, it is that
+-- one.
 pub record ServesOne (A : AgreedValues) (given : Option ℕ) (Brought : Trace → Type 0) (s t : State) : Type 0 where
   pub moment : ℕ
   pub is_given : IfSome given (λ m. moment ≡ m)

@@ -5,7 +5,8 @@ use Rattle.as2_records.specs.Standing.{Medium, Standing, may_come}
 use Rattle.as2_host.specs.declared.stores.OpenFault.{OpenFault}
 use Rattle.as2_host.specs.declared.stores.OpenFault.TheVariants as open_fault
 
--- a store has a fault that may come of any call; it is no file of somebody else, no log, and no path that can't be opened
+-- The fault is a store's own, and may come of any call. It isn't that another process has the file, that a log stands
+-- alone, or that a path can't be opened.
 abbrev pub MayCome : OpenFault → Type 0
 MayCome open_fault.Held = ⊥
 MayCome open_fault.LogAlone = ⊥

@@ -50,7 +50,7 @@ pub trait MakeFiles {
     ghost makes_none: { Self → List ℕ → List File → TheMakingFault → Self → Type 0 };
 
     /// Makes these files in that folder, each of them or none. Exists where something stands under the name of one, be it a link to
-    /// nothing; CannotWrite where there is no such folder, or one of them can't be written whole.
+    /// nothing. CannotWrite where there is no such folder, or one of them can't be written whole.
     fn make_files(
         &mut self,
         alloc: Global,

@@ -10,8 +10,8 @@ read_limit = 65536
 abbrev pub AllGave : List (List ℕ) → Type 0
 AllGave pieces = AllByRecursion (λ piece. 0 < length piece) pieces
 
--- behind the text these pieces were read one after the other, each where what had come before it needed more; one that gave nothing, since it failed or the input
--- had ended, is the last; and that is all of them
+-- Behind the text these pieces were read one after the other, each where what had come before it needed more. One that gave nothing, since it failed
+-- or the input had ended, is the last. What has come is the text with all of them.
 abbrev pub AllNeeded : (List ℕ → Type 0) → List ℕ → List (List ℕ) → List ℕ → Type 0
 AllNeeded needs text [] all = all ≡ text
 AllNeeded needs text (piece ∷ more) all = needs text × (length piece ≤ read_limit) × (piece ≡ [] → more ≡ []) × AllNeeded needs (text ++ piece) more all

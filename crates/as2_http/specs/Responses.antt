@@ -65,8 +65,8 @@ is_for_station Head target = false
 is_for_station OtherMethod target = false
 
 module _ (A : AgreedValues) (moment : ℕ) where
-  -- the post is a step of the machine, and where it asks the records, the state that it leaves is safe; or there is a fault, which
-  -- changes nothing, and never stands in place of what the head decides
+  -- The post is a step of the machine, or there is a fault. Where the step asks the records, the state that it leaves is safe. A
+  -- fault changes nothing, and never stands in place of what the head decides.
   abbrev pub RespondsToPost : State → Request → Response → (State → Type 0) → State → Type 0
   RespondsToPost s r (Answered answer) Safe t =
       (step A s (post_event r moment) ≡ Some (Http answer, t)) × (asks_store A (post_event r moment) ≡ true → Safe t)

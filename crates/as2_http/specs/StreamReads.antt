@@ -44,8 +44,8 @@ pub record BetweenReads {M : Medium} (A : AgreedValues) (moment : ℕ) (s : Stat
 
 -- ---- the stream
 
--- the requests that the input begins with were answered one after the other, a run of the machine, and what stands of each document is its history; their replies
--- were written and noted, this end followed, and t is left
+-- The requests that the input begins with were answered one after the other. That is a run of the machine, and what stands of each document is its
+-- history. Their replies were written and noted, this end followed, and t is left.
 pub record Serves (A : AgreedValues) (moment : ℕ) (s t : State) (input : List ℕ) (unread : Option (List ℕ)) (before after : SinkAndJournal) (calls later : ℕ) (served : Served) : Type 0 where
   pub done : List RequestAndResponse
   pub mid : State

@@ -98,8 +98,8 @@ pub data CutShort (A : AgreedValues) (moment : ℕ) (mid : State) (replies lines
       (is : IsReply moment (refusal_form refused) (refusal (refusal_line refused.reason)) text) (cut : text ≡ part ++ missing) (said : WritesAndNotes before after (replies ++ part) (lines ++ refusal_note moment refused.reason))
       → CutShort A moment mid replies lines rest before after t
 
--- memory was wanting, for a request, for a reply or for a refusal, and no more than the replies before is written; a request that
--- was taken and a refusal are noted
+-- Memory was wanting, for a request, for a reply or for a refusal. Only the replies before are written. A request that was taken
+-- and a refusal are noted.
 pub data OutOfMemory (A : AgreedValues) (moment : ℕ) (mid : State) (replies lines rest : List ℕ) (before after : SinkAndJournal) (t : State) : Type 0 where
   for_request : (same : t ≡ mid) (said : WritesAndNotes before after replies lines) → OutOfMemory A moment mid replies lines rest before after t
   for_reply : (r : Request) (behind : List ℕ) (response : Response) (begins : BeginsRequest rest r behind) (responds : Responds A moment mid r response Unsaid t)

@@ -64,9 +64,10 @@ fn read_answer<R: Source>(alloc: Global, source: &mut R) -> TryAnswer
     TryAnswer::NoAnswer
 }
 
-/// Sends the request of a job, and reads one answer (RFC 9112, sections 4 and 6). Whatever goes wrong is no answer: a write or
-/// a read that fails, memory that isn't there, an input that ends too early, a head that can't be read, a status below 200,
-/// a transfer coding other than `chunked`, a bad chunk, a body of more than 1,048,576 bytes. At most 100,000 reads are made.
+/// Sends the request of a job, and reads one answer (RFC 9112, sections 4 and 6). Whatever goes wrong is no answer. So it is
+/// with a write or a read that fails, memory that isn't there, an input that ends too early, and a head that can't be read. So
+/// it is too with a status below 200, a transfer coding other than `chunked`, a bad chunk, and a body of more than 1,048,576
+/// bytes. At most 100,000 reads are made.
 pub fn exchange<R: Source, W: Sink>(
     alloc: Global,
     job: &Job,

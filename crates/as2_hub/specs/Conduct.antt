@@ -27,8 +27,8 @@ abbrev pub Chain : {S : Type 0} → Conduct S → S → List DeskCall → S → 
 Chain D old [] new = new ≡ old
 Chain {S} D old (e ∷ round) new = (mid : S) × Chain D old round mid × D.answers mid e.asked e.reply e.stays new
 
--- Behind the calls, which led from the first state to the second, the round ended with this verdict: it is kept; or it is lost, as it might
--- be from its begin, and then the last state keeps what the first does.
+-- Behind the calls, which led from the first state to the second, the round ended with this verdict. It is kept, or it is lost, as it might
+-- be from its begin. Where it is lost, the last state keeps what the first does.
 abbrev pub EndsRound : {S : Type 0} → Conduct S → Bool → S → S → S → Type 0
 EndsRound D true old called new = D.settles called new
 EndsRound D false old called new = (D.may_lose old ≡ true) × (D.kept new ≡ D.kept old)

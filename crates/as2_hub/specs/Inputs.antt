@@ -50,7 +50,7 @@ goes_to at (b ∷ piece) = Goes at (b ∷ piece) ∷ []
 abbrev pub TurnsOver : Hub → List ℕ → Happenings → Type 0
 TurnsOver hub named more = (verdict : Bool) × (round : List DeskCall) × (called_places round ≡ places_asked hub named) × (more ≡ ended_round verdict round [])
 
--- by that input this happens: all of a piece comes, where more is read; a round is kept or lost; and no more goes than is to be written
+-- By that input this happens. All of a piece comes, where more is read. A round is kept or lost. No more goes than is to be written.
 abbrev pub HappensBy : Hub → Input → Happenings → Type 0
 HappensBy hub (input.Opens at) more = more ≡ opens_if at (is_vacant (slice_get (places hub) at))
 HappensBy hub (input.Comes at piece) more = more ≡ comes_if (is_reading_in (slice_get (places hub) at)) at piece.items
@@ -58,7 +58,8 @@ HappensBy hub (input.Turns named) more = TurnsOver hub named.items more
 HappensBy hub (input.Goes at most) more = more ≡ goes_to at (take most (output_at (slice_get (places hub) at)))
 HappensBy hub (input.Closes at) more = more ≡ Closes at ∷ []
 
--- what happened last changed the place where it happened, or those of a round that is kept, and no other; and a round that is lost, none
+-- What happened last left all places as they were but the one where it happened. A round that is kept left all but those of its calls.
+-- One that is lost left all.
 abbrev pub ChangesPlaces : Happenings → List (Option Talk) → List (Option Talk) → Type 0
 ChangesPlaces [] old new = new ≡ old
 ChangesPlaces (Opens c ∷ more) old new = OpensTalk c old new

@@ -77,13 +77,13 @@ without_reply (Some (Some t)) = Some (Some (record t { reply = None }))
 abbrev pub DiffersByReplies : List (Option Talk) → List (Option Talk) → Type 0
 DiffersByReplies old new = (c : ℕ) → without_reply (slice_get new c) ≡ without_reply (slice_get old c)
 
--- The round has ended, with this verdict, and at this place nothing is changed but that no reply is held, unless the round is kept and one
+-- The round has ended, with this verdict. Where it is lost, or no reply was held at this place, the place holds none and is else as it
 -- was.
 abbrev pub ChangesOnlyIfKept : Bool → Option (Option Talk) → Option (Option Talk) → Type 0
 ChangesOnlyIfKept is_kept old new = (is_kept && holds_reply_in old) ≡ false → new ≡ without_reply old
 
--- Within a round of these calls: what is kept of the connection at that place is the rest of its input, with what is asked, and of the
--- replies; and no more than one of the calls was made for it.
+-- This is so within a round of these calls. What is kept of the connection at that place is the rest of its input, with what is asked,
+-- and the rest of the replies. No more than one of the calls was made for it.
 pub record TalkStands (c : ℕ) (h : Happenings) (round : List DeskCall) (t : Talk) : Type 0 where
   pub is_open : is_open_after c h ≡ true
   pub rest : HoldsRest (before_calls (calls_at c round) t) (bytes_from c h) (calls_of c h)

@@ -9,8 +9,8 @@ use Rattle.as2_hub.specs.Places.{StandAfter, output_at, places}
 use Rattle.as2_hub.specs.Rounds.{AnswerWhatWaited, Scene}
 use Rattle.as2_hub.specs.declared.input.Input.{Input}
 
--- What happened leads the desk from the first state to the last: the rounds that are kept one after the other; one that is lost, as it
--- might be from its begin, leaves what the desk keeps as it was.
+-- What happened leads the desk from the first state to the last. The rounds that are kept do so one after the other. One that is lost,
+-- as it might be from its begin, leaves what the desk keeps as it was.
 abbrev pub Leads : {S : Type 0} → Conduct S → S → Happenings → S → Type 0
 Leads D old [] new = new ≡ old
 Leads {S} D old (Keeps round ∷ h) new = (mid : S) × Leads D old h mid × Round D true mid round new
@@ -40,15 +40,15 @@ PlaysInputs {S} D (i ∷ inputs) old h new = (mid : Scene S) × (first later : H
 
 -- ---- what is promised
 
--- What is promised of a connection: the calls of kept rounds answer, one by one, what its bytes begin with; and what was written to it,
--- and then what is to be written, are their replies.
+-- What is promised of a connection. The calls of kept rounds answer, one by one, what its bytes begin with. What was written to it, and
+-- then what is to be written, are their replies.
 pub record Promise (c : ℕ) (h : Happenings) (unwritten : List ℕ) : Type 0 where
   pub answered : AnswersInOrder (bytes_from c h) (calls_of c h)
   pub written : replies_of (calls_of c h) ≡ written_to c h ++ unwritten
 
--- By these inputs something happened that leads the desk so. Whatever happened before: the rounds answer what waited and nothing else; each
--- open connection has what is promised, and what is kept of it is the rest. The bounds are as they were, and no more bytes that aren't
--- answered are counted than they say.
+-- By these inputs something happened that leads the desk so. Whatever happened before, the rounds answer what waited and nothing else. Each open
+-- connection has what is promised then, and what is kept of it is the rest. The bounds are as they were. Bytes that were within them are within them
+-- still.
 pub record KeepsPromises {S : Type 0} (D : Conduct S) (inputs : List Input) (old new : Scene S) : Type 0 where
   pub happenings : Happenings
   pub plays : PlaysInputs D inputs old happenings new

@@ -17,7 +17,7 @@ abbrev pub scene : {S : Type 0} → S → Hub → Scene S
 scene desk hub = record { desk = desk; hub = hub }
 
 -- These calls were made, one after the other, and a round with them goes on as one with these in front. The places without a call are as
--- they were; and where a round may be lost, so are the others but for the replies that are held, and what the desk keeps.
+-- they were. Where a round may be lost, what the desk keeps is as it was, and so are the other places but for the replies that are held.
 pub record MakesCalls {S : Type 0} (D : Conduct S) (old new : S) (talks next : List (Option Talk)) : Type 0 where
   pub calls : List DeskCall
   pub chain : Chain D old calls new

@@ -14,9 +14,9 @@ use Rattle.as2_hub.specs.declared.talk.Talk.{Talk}
 abbrev pub unanswered_of : Talk → ℕ
 unanswered_of t = t.taken + length t.behind
 
--- Of a text that isn't answered: all of it is in the parser, and is less than a request; or it begins with what waits, and the rest
--- came behind that. Without a parser nothing more is read: no request begins there; or the connection was given up, as where memory is
--- wanting, and then some bytes came that aren't kept. Of a request that waits no more bytes came than are counted.
+-- How a text that isn't answered is kept. It may all be in the parser, and is less than a request then. Or it begins with what waits, and the
+-- rest came behind that. Without a parser nothing more is read. Then no request begins there, or the connection was given up, as where
+-- memory is wanting, and some bytes came that aren't kept. Of a request that waits no more bytes came than are counted.
 abbrev pub UnansweredBy : Option RequestParser → Option Beginning → Bool → ℕ → List ℕ → List ℕ → Type 0
 UnansweredBy (Some p) None spent taken behind text = HasTaken p text × (behind ≡ [])
 UnansweredBy (Some p) (Some (beginning.Request r)) spent taken behind text = HasTaken p [] × BeginsRequest text r behind

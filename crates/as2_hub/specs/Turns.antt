@@ -18,8 +18,8 @@ abbrev pub each_once : List ℕ → List ℕ
 each_once [] = []
 each_once (c ∷ named) = c ∷ without_place c (each_once named)
 
--- The places that a round asks: those of the named ones that are ready, each once, in the order in which they are named, and no more of
--- them than may be answered in one round.
+-- The places that a round asks. They are those of the named ones that are ready, each once, in the order in which they are named. They
+-- are so many at most as may be answered in one round.
 abbrev pub places_asked : Hub → List ℕ → List ℕ
 places_asked hub named = take hub.bounds.requests (each_once (filter (is_ready_at (places hub)) named))
 

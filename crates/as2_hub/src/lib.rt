@@ -1,4 +1,4 @@
-//! Many connections of HTTP as one state machine, without a socket, a clock, a store or a thread: bytes come in any
+//! Many connections of HTTP as one state machine, without a socket, a clock, a store or a thread. Bytes come in any
 //! pieces, the requests that they begin with are answered in rounds, and a reply may go once its round is kept.
 #![tactic(auto)]
 

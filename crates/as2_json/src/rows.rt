@@ -28,8 +28,8 @@ fn out_value(alloc: Global, row: &OutRow, is_settled: bool) -> Result<Value, All
     })
 }
 
-/// Appends the object of a document that is sent, in a line: its number, identifier, state and detail, how often it was tried, whether a
-/// receipt has settled it, and from whom and to whom it is. Memory where it runs out; a part of the line may be appended then.
+/// Appends the object of a document that is sent, in a line. It has the number, identifier, state and detail, how often it was tried,
+/// whether a receipt has settled it, and from whom and to whom it is. Memory where it runs out; a part of the line may be appended then.
 pub fn add_out_object(text: &mut Vec<u8>, row: &OutRow, is_settled: bool) -> Result<(), Memory>
     ensures { OnOk result (text.new.items ≡ text.old.items ++ object_line (out_object is_settled row.now)) }
 {

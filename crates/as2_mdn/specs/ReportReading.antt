@@ -1,6 +1,6 @@
 -- The report that is read: a multipart/report (RFC 6522, section 3) whose second part is a message disposition
--- notification (RFC 8098, section 3) with the fields of AS2 (RFC 4130, section 7.4), and the first fault of a body that is
--- none.
+-- notification (RFC 8098, section 3). That part has the fields of AS2 (RFC 4130, section 7.4). And the first fault of a
+-- body that is no such report.
 use Rattle.std.specs.Prelude.{◌≡◌, ℕ, ◌⊎◌, Bool, true, false, ◌||◌, not, ◌==◌, List, [], ◌∷◌, length, map, if◌then◌else◌, IsTrue, Option, Some, None, Result, Ok, Err, codes}
 use Rattle.std.specs.Str.{str_eq_ignore_ascii_case}
 use Rattle.as2_names.specs.Ascii.{comma}
@@ -65,7 +65,8 @@ pub record IsNotificationHead (head : List ℕ) : Type 0 where
 
 -- ---- the content of the second part
 
--- the MIC that is given: none where no field is, and one where the one field is one; anything else can't be read
+-- The MIC that is given. Without a field it is missing. The one field gives it, where that is a MIC field. Anything
+-- else can't be read.
 abbrev pub IsMic : List (List ℕ) → Mic → Type 0
 IsMic [] mic = mic ≡ Missing
 IsMic (text ∷ []) mic =

@@ -1,5 +1,6 @@
 -- The report that is written: a multipart/report (RFC 6522, section 3) whose second part is a message disposition
--- notification (RFC 8098, section 3) with the fields of AS2 (RFC 4130, section 7.4), and its head fields.
+-- notification (RFC 8098, section 3). That part has the fields of AS2 (RFC 4130, section 7.4). And the head fields of
+-- the report.
 use Rattle.std.specs.Prelude.{ℕ, List, [], ◌++◌, length, Option, Some, None, codes, decimal}
 use Rattle.as2_names.specs.Names.{name_spelling}
 use Rattle.as2_mic.specs.Algs.{alg_name}

@@ -1,4 +1,5 @@
--- An input holds one answer at most, and none is awaited behind it, nor where there is none.
+-- An input holds one answer at most, and none where none can come. No bytes are awaited behind an answer whose head tells its
+-- end. None are awaited where no answer can come any more.
 use Rattle.std.specs.Prelude.{◌≡◌, ℕ, List}
 use Rattle.as2_messages.specs.Answering.{AnswerIn, BeginsAnswer, IsNoAnswer, IsOpenAnswer}
 use Rattle.as2_messages.specs.Requests.{Fields}

@@ -95,8 +95,8 @@ pub data IsCutAnswer (text : List ℕ) : Type 0 where
 abbrev pub IsOpenAnswer : List ℕ → Type 0
 IsOpenAnswer text = IsCutAnswer text ⊎ ((status : ℕ) × (fields : Fields) × (body : List ℕ) × IsAnswerToEnd text status fields body)
 
--- The text begins with no answer, however it goes on: no head ends within its limit, the bytes up to the first empty line are no head,
--- no body can be read, it is too long, or what came of it can't become one.
+-- The text begins with no answer, however it goes on. No head ends within its limit, or the bytes up to the first empty line are no
+-- head. Or no body can be read, it is too long, or what came of it can't become one.
 pub data IsNoAnswer (text : List ℕ) : Type 0 where
   too_long : (none : HasNoHeadText text) (long : head_limit ≤ length text) → IsNoAnswer text
   no_head : (bytes after : List ℕ) (found : HasHeadText text bytes after) (never : (head : ResponseHead) (fields : Fields) → ¬ (IsAnswerHead bytes head fields)) → IsNoAnswer text

@@ -99,8 +99,8 @@ is_head method.Head = true
 is_head method.Post = false
 is_head method.Other = false
 
--- The text begins with no request, however it goes on: no head ends within its limit, the bytes up to the first empty line are no
--- head, the framing is refused, or what came of the body.
+-- The text begins with no request, however it goes on. No head ends within its limit, or the bytes up to the first empty line are
+-- no head. Or the framing is refused, or what came of the body.
 pub data BeginsNoRequest (text : List ℕ) (refused : Refused) : Type 0 where
   too_long : (none : HasNoHeadText text) (long : head_limit ≤ length text) (is : refused ≡ bad_head) → BeginsNoRequest text refused
   no_head : (bytes after : List ℕ) (found : HasHeadText text bytes after) (never : (head : RequestHead) (fields : Fields) → ¬ (IsHead bytes head fields)) (is : refused ≡ bad_head) → BeginsNoRequest text refused

@@ -4,8 +4,8 @@ use Rattle.std.specs.List.{list_all}
 use Rattle.as2_names.specs.Ascii.{is_printable}
 use Rattle.as2_names.specs.Names.{units, with_front}
 
--- items are the first 128 of the units met, and count is how many there were; what is met and what the rest gives
--- is what the whole text gives
+-- Items are the first 128 of the units met, and count is how many there were. The units met, and then those that the
+-- rest gives, are those that the whole text gives.
 pub record Scans (text items : List ℕ) (count : ℕ) (escaping : Bool) (rest : List ℕ) : Type 0 where
   pub met : List ℕ
   pub first : items ≡ take 128 met

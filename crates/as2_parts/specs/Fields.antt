@@ -53,8 +53,8 @@ HoldsFields (f ∷ rest) fields =
     ((field : FieldText) × (others : List FieldText) × (fields ≡ field ∷ others) × IsField (concat (lines_of f)) field × HoldsFields rest others)
     ⊎ (((field : FieldText) → ¬ IsField (concat (lines_of f)) field) × HoldsFields rest fields)
 
--- The text has these fields: at its front may stand lines that begin with a blank, which belong to no field; then come
--- lines, each with those that go on with it; and these are the fields among them.
+-- The text has these fields. At its front may stand lines that begin with a blank, which belong to no field. Then come
+-- lines, each with those that go on with it. The fields among them are these.
 pub record HasFields (text : List ℕ) (fields : List FieldText) : Type 0 where
   pub loose : List (List ℕ)
   pub groups : List FoldedLine

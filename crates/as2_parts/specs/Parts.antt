@@ -32,8 +32,8 @@ IsMark boundary line = IsDelimiter boundary line ⊎ IsClosing boundary line
 abbrev pub HasNoMark : List ℕ → List (List ℕ) → Type 0
 HasNoMark boundary section = All (λ line. ¬ IsMark boundary line) section
 
--- The body is a preamble, a delimiter, a first part, a delimiter, a second part and a rest that begins with a delimiter
--- or the closing line and has a closing line; no line of the preamble and of the two parts is either.
+-- The body is a preamble, a delimiter, a first part, a delimiter, a second part and a rest. The rest begins with a
+-- delimiter or the closing line, and has a closing line. No line of the preamble and of the two parts is either.
 pub record IsTwoParts (boundary body : List ℕ) (first second : PartText) : Type 0 where
   pub preamble : List (List ℕ)
   pub opening : List ℕ

@@ -1,5 +1,5 @@
-//! What a post is, and what is answered to it: the exchange machine's reading of a head and a body, and its answers; and the
-//! requests that are sent, and the heads of the answers to them. It has no store.
+//! What a post is, and what is answered to it: the exchange machine's reading of a head and a body, and its answers. Also
+//! the requests that are sent, and the heads of the answers to them. It has no store.
 #![tactic(auto)]
 
 mod answering;

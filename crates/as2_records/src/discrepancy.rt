@@ -7,8 +7,8 @@ pub enum Discrepancy {
     ReceivedNumber(u64),
     /// The number of a document that is sent isn't below the next number of a document.
     SentNumber(u64),
-    /// What is kept of what a received document waits for isn't what its entry says.
+    /// What a received document waits for is kept otherwise than its entry says.
     ReceivedWait(u64),
-    /// What is kept of what a document that is sent waits for isn't what its entry says.
+    /// What a document that is sent waits for is kept otherwise than its entry says.
     SentWait(u64),
 }

@@ -57,10 +57,10 @@ pub trait Records {
         ensures full_same { end_of_numbers ≤ entry.now.number → self.new ≡ self.old }
         ensures fault { IfErr result (λ f. (f ≡ Full) ⊎ (may_come f ≡ true)) };
 
-    /// Adds a document that no receipt has settled to the outbox under the next number of a document, as `next_numbers` gives it.
-    /// Answers Full exactly where the number is past 999,999,999,999, and then touches nothing; Refused where it isn't the next, where
-    /// another document has an identifier of its value, and where what is kept can't say that it is begun (a document that is begun and not
-    /// tried, or tried and not begun); Memory, Disk or Refused. A fault leaves the state.
+    /// Adds a document that no receipt has settled to the outbox under the next number of a document, as `next_numbers` gives it. Answers
+    /// Full exactly where the number is past 999,999,999,999, and then touches nothing. Answers Refused where it isn't the next, and where
+    /// another document has an identifier of its value. So too where what is kept can't say that it is begun (a document that is begun and
+    /// not tried, or tried and not begun). Answers also Memory, Disk or Refused. A fault leaves the state.
     fn add_out(&mut self, entry: &OutEntry) -> Result<(), StoreFault>
         requires unsettled { entry.now.evidence ≡ None }
         ensures added { Writes (added_document entry.now) (shows self.old) (shows self.new) result }

@@ -12,8 +12,8 @@ use Rattle.as2_store.specs.Tables.{Layout, VersionOne, VersionTwo, VersionThree}
 use Rattle.as2_storage.specs.Files.{HoldsAs}
 use Rattle.as2_restart.specs.Restarts.{ComesTo}
 
--- what the migration of tables of this version tells, which stood for that state: of the first a mark; of later ones nothing, since the
--- state is the same
+-- What the migration of tables of this version tells, which stood for that state. Of the first version it is a mark. Of later ones it
+-- is nothing, since the state is the same.
 abbrev pub migration_trace : Layout → State → Trace
 migration_trace VersionOne s = AMigration s.next_in ∷ []
 migration_trace (VersionTwo way) s = []

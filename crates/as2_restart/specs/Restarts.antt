@@ -31,8 +31,8 @@ IsUnanswered A (AnEvent event (Answered answer) ∷ rest) = (asks_store A event 
 IsUnanswered A (AnEvent event (Failed fault) ∷ rest) = IsUnanswered A rest
 IsUnanswered A (AMigration number ∷ rest) = ⊥
 
--- the same events, but that one to which no answer came, and behind which nothing that asks the store was answered, has one; or behind
--- all of them the store was migrated, to which no answer came
+-- The same events, but one to which no answer came has one here. Behind that one nothing that asks the store was answered. Or behind
+-- all of them the store was migrated, to which no answer came.
 pub data HasOneDone (A : Agreements) : Trace → Trace → Type 0 where
   this_one : (event : Event) (fault : StoreFault) (answer : Answer) (rest : Trace) → IsUnanswered A rest → HasOneDone A (AnEvent event (Failed fault) ∷ rest) (AnEvent event (Answered answer) ∷ rest)
   a_migration : (number : ℕ) → HasOneDone A [] (AMigration number ∷ [])

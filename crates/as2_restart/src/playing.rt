@@ -57,9 +57,9 @@ pub fn play_then_stop<D: Crash + Drop>(
     Ok(Stopped { said, again })
 }
 
-/// Takes the events one after the other, and closes the store, whose files record their calls, as a program's do. They hold what
-/// the events led to, or a 64-bit digest has collided, where the store is under the kit's shield, which an open whose reads were
-/// honest gives. Memory where nothing has happened.
+/// Takes the events one after the other, and closes the store, whose files record their calls, as a program's do. Where the
+/// store is under the kit's shield, the files hold what the events led to, or a 64-bit digest has collided. An open whose reads
+/// were honest gives the shield. Memory where nothing has happened.
 pub fn play_then_close<C: Calls + Drop, S: Start>(
     alloc: Global,
     mut station: Station<Kept<FileStore<Modelled<C, S>>>>,

@@ -1,7 +1,8 @@
 //! Command lines of the station over files, stores, streams and a network in memory, as texts set them.
 //!
-//! A file is the text whose name is its path. `stores` says what stands under each path (`stores.rt`), `connections` how the connections
-//! end that come, `connection-posts` what each brings, `partner-reply` what each partner answers, and `link-fault` why none does (`network.rt`); `script_player` has the clock and the streams.
+//! A file is the text whose name is its path. `stores` says what stands under each path (`stores.rt`). `connections` says how the connections end
+//! that come, `connection-posts` what each brings, `partner-reply` what each partner answers, and `link-fault` why none does (`network.rt`).
+//! `script_player` has the clock and the streams.
 ghost use Rattle.as2_http.specs.Devices.{OpensLedger};
 
 mod connections;

@@ -104,8 +104,9 @@ module _ (A : Agreements) (m : ℕ) where
 -- ---- all of it
 
 -- Turns were taken one after the other, and then sending ended so. The events are a run of the machine, what stands of each document
--- then is its history, and what was written is the lines of the turns. What was hinted, and what went over the links (Seen), is why
--- each turn failed that did, and the jobs that were handed out, each with the outcome that was taken; of the last events too.
+-- then is its history, and what was written is the lines of the turns. What was hinted, and what went over the links, is Seen: why
+-- each turn failed that did, and the jobs that were handed out, each with the outcome that was taken. Those of the last events are
+-- seen too.
 pub record Sends (A : Agreements) (m : ℕ) (s t : State) (before after : Option (List ℕ))
     (Seen : Text → List Exchange → Type 0) (end : Sent) : Type 0 where
   pub done : List Turn
@@ -122,14 +123,14 @@ pub record Sends (A : Agreements) (m : ℕ) (s t : State) (before after : Option
 -- ---- one turn
 
 module _ (A : Agreements) (m : ℕ) where
-  -- what is next begins, and the records rest on the state that it leaves, which lasts before its request goes over a link; or sending
-  -- ends with it, and nothing goes over a link
+  -- What is next begins, and the records rest on the state that it leaves. That state lasts before its request goes over a link. Or
+  -- sending ends with it, and nothing goes over a link.
   abbrev pub BeginsTo : {M : Medium} → State → Next → Standing M → Result Job Sent → Type 0
   BeginsTo s what c (Ok job) = (mid : State) × BeginsTry A m s what job mid × c.Rests mid × IsSafe c mid
   BeginsTo s what c (Err end) = (last : Trace) × (t : State) × SendingEnds A m s last t [] end × c.Rests t × (exchanges last ≡ [])
 
-  -- the outcome of what has begun is taken, which leaves mid behind, and what this leaves lasts before its line is written; or
-  -- sending ends with it
+  -- What has begun left mid. Its outcome is taken, and the state that this leaves lasts before its line is written. Or sending
+  -- ends with it.
   abbrev pub ClosesTo : {M : Medium} → State → Next → Exchange → State → Standing M → Result Became Sent → Type 0
   ClosesTo s what x mid c (Ok became) =
       (t : State) × (step A mid (outcome_event what x.got m) ≡ Some (answer_of became, t)) × c.Rests t × IsSafe c t

@@ -29,9 +29,9 @@ fn both(one: bool, other: bool) -> bool
     one && other
 }
 
-/// Sends what is due at a moment, in turns: what is next - the receipt or else the document of the least number - begins, the
+/// Sends what is due at a moment, in turns. What is next begins: the receipt or else the document of the least number. The
 /// link's answer to its request is its outcome, and then its line is written, at once. Refused at the first event that is
-/// refused, which has no line; Failed where the store fails; Unwritten where a line can't be written, and what was done stays;
+/// refused, which has no line. Failed where the store fails. Unwritten where a line can't be written, and what was done stays.
 /// Done once nothing is due. Behind the line of a try that failed, why it did is written among the hints; a hint that can't be
 /// written changes nothing else.
 pub fn send<K: Records, L: Links, W: Sink, E: Write>(

@@ -40,14 +40,14 @@ pub record LeavesAnswered {M : Medium} (c : Standing M) (came : Option (Answer �
 abbrev pub left_by : Machine → State → Option State
 left_by machine s = option_map (λ (came : Answer × State). came.1) (machine s)
 
--- what a call may leave to a crash beside what was left before: over open records, the state that they rested on,
--- or the one that the machine leaves
+-- What a call may leave to a crash beside what was left before. Over open records it is the state that they rested on,
+-- or the one that the machine leaves.
 pub record MayLeave {M : Medium} (machine : Machine) (given : State → Type 0) (old : Standing M) (left : M.Remains) : Type 0 where
   pub was_open : IsTrue old.is_open
   pub stands : (s : State) → old.Rests s → given s → M.keeps left s ⊎ KeepsNext M left (left_by machine s)
 
--- a call does what the machine does, in each state of which this is given: it answers what the machine answers - what asks the
--- records, over open ones - or fails, and then nothing is changed; and it is Full only where no number is left
+-- A call does what the machine does, in each state of which this is given. It answers what the machine answers, and where it
+-- asks the records, these are open. Or it fails, and then nothing is changed. It is Full only where no number is left.
 pub record Does {M : Medium} {A : Type 0} (machine : Machine) (given : State → Type 0) (asks : Type 0) (told : A → Answer) (old new : Standing M) (r : Result A StoreFault) : Type 0 where
   pub clean : new.IsClean → old.IsClean
   pub is_open : new.IsClean → OnOk r (asks → IsTrue new.is_open)
@@ -69,8 +69,8 @@ abbrev pub ClashesWhole : {M : Medium} {A : Type 0} → (A → Answer) → PostR
 ClashesWhole told reads old new r = new.IsClean
     → IfOk r (λ a. told a ≡ Http (refusal IdUsedBefore) → (p : Posted) → reads ≡ IsDocument p → (s : State) → old.Rests s → IsKeptWhole p s)
 
--- a call that takes an event; what stands then of each document is its history; what the records rest on lasts, whatever stops
--- the machine; and what is damaged is not taken for another document
+-- A call that takes an event. What stands then of each document is its history. What the records rest on lasts, whatever stops
+-- the machine. What is damaged is not taken for another document.
 pub record TakesEvent {M : Medium} {A : Type 0} (agreed : Agreements) (event : Event) (told : A → Answer) (old new : Standing M) (r : Result A StoreFault) : Type 0 where
   pub does : Does (λ s. step agreed s event) always (asks_store agreed event ≡ true) told old new r
   pub by_history : TakesByHistory agreed event told old new r

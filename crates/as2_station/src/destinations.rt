@@ -42,7 +42,8 @@ fn of_receipt<R: Records>(
     alloc: Global,
     number: u64,
 ) -> Result<Option<Bytes>, StoreFault>
-    ensures destination { Reads (λ s found. found ≡ option_map_or (λ e. asked_at e.posted.how) (received_entry s number) None)
+    ensures destination { Reads (λ s found. found
+        ≡ option_map_or (λ e. asked_at e.posted.how) (received_entry s number) None)
         (R.shows records.old) (R.shows records.new) result }
     ensures fault { IfErr result (λ f. may_come f ≡ true) }
 {
@@ -59,7 +60,8 @@ fn of_document<R: Records>(
     agreements: &Agreements,
     number: u64,
 ) -> Result<Option<Bytes>, StoreFault>
-    ensures destination { Reads (λ s found. found ≡ option_map_or (partner_address agreements.now) (document s number) None)
+    ensures destination { Reads (λ s found. found
+        ≡ option_map_or (partner_address agreements.now) (document s number) None)
         (R.shows records.old) (R.shows records.new) result }
     ensures fault { IfErr result (λ f. may_come f ≡ true) }
 {

@@ -1,5 +1,5 @@
 //! The station: the exchange machine over its records. Each event is a step of the machine, and the records then rest on
-//! the state that it leaves; or it is a fault of theirs, and they rest on the state before.
+//! the state that it leaves. Or it is a fault of theirs, and they rest on the state before.
 #![tactic(auto)]
 
 mod agreed;

@@ -15,7 +15,7 @@ use as2_records::Records;
 use as2_text::Moment;
 use std::alloc::Global;
 
-/// Why the document isn't sent anew, if it isn't: who sends it is no organization any more, who is to get it no partner, a receipt
+/// Why the document isn't sent anew, if it isn't: its sender is no organization any more, its receiver is no partner, a receipt
 /// has settled it, or it hasn't failed.
 fn refusal_of(agreements: &Agreements, document: &OutEntry) -> Option<Refusal>
     ensures { result ≡ resend_refusal agreements.now document.now }

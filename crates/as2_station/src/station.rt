@@ -275,9 +275,9 @@ impl<R: Records> Station<R> {
         self.next_receipt(moment, None)
     }
 
-    /// What is to be sent next at this moment behind what was looked at last: behind a receipt the due receipt of the next number, or
-    /// else the due document of the least number; behind a document the due document of the next number; or nothing. Where nothing
-    /// was looked at it is what `next` answers. Answers Memory, Disk or Refused.
+    /// What is to be sent next at this moment behind what was looked at last. Behind a receipt it is the due receipt of the next
+    /// number, or else the due document of the least number. Behind a document it is the due document of the next number. Or it is
+    /// nothing. Where nothing was looked at it is what `next` answers. Answers Memory, Disk or Refused.
     pub fn next_behind(
         &mut self,
         moment: Moment,

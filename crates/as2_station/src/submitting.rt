@@ -18,8 +18,8 @@ use as2_records::Records;
 use as2_text::{AsName, MessageId, Moment};
 use std::alloc::Global;
 
-/// Why a document that is handed in is refused, if it is: who sends it is no organization, who is to get it no partner, or it
-/// has more than 1,048,576 bytes.
+/// Why a document that is handed in is refused, if it is: its sender is no organization, its receiver is no partner, or it has
+/// more than 1,048,576 bytes.
 fn refusal_of(
     agreements: &Agreements,
     organization: &AsName,

@@ -9,7 +9,8 @@ use Rattle.as2_store.specs.Tables.{Way, VersionThree, store_schema}
 use Rattle.as2_store.specs.Stands.{Stands, Rests, IsBlank, MetaSays, adoption_fault}
 use Rattle.as2_records.specs.Standing.{may_come}
 
--- a statement inside a transaction: nothing is committed, and nothing is left to a crash that wasn't
+-- A statement inside a transaction. It commits nothing, and a crash behind it leaves only what one before it might have
+-- left.
 pub record IsInside (old new : Connected) : Type 0 where
   pub clean : HasCleanDisk new → HasCleanDisk old
   pub kept : HasCleanDisk new → KeepsCommit old new
@@ -91,8 +92,8 @@ pub record Adopts (old new : Connected) : Type 0 where
   pub no_blank : HasCleanDisk new → ¬ IsBlank old
   pub crash : Survives old new (CommitsTables Some old)
 
--- why tables aren't adopted: a fault that may come from any call; else what the row of `meta` says, where it can be read; and
--- a database without tables is no store
+-- Why tables aren't adopted. It is a fault that may come from any call, or else what the row of `meta` says, where that can
+-- be read. A database without tables is no store.
 pub record IsReason (old : Connected) (f : StoreFault) : Type 0 where
   pub of_store : (s : State) → Rests old s → may_come f ≡ true
   pub of_row : (kind : List ℕ) (version : ℕ) → MetaSays old kind version → (may_come f ≡ true) ⊎ (adoption_fault kind version ≡ Some f)

@@ -53,8 +53,8 @@ abbrev pub is_full : StoreFault → Bool
 is_full Full = true
 is_full other = false
 
--- why tables aren't migrated: never that numbers are used up; of a store of an earlier version, a fault that may come from any call; else what the row of `meta` says,
--- where it can be read; and a database without tables is no store
+-- Why tables aren't migrated. It is never that numbers are used up. It may be a fault that may come from any call, and of a store of an earlier
+-- version it is one. Else it is what the row of `meta` says, where that can be read. A database without tables is no store.
 pub record IsMigrationReason (old : Connected) (f : StoreFault) : Type 0 where
   pub not_full : is_full f ≡ false
   pub of_earlier : (layout : Layout) (s state : State) → RestsAs layout old s → migrated_from layout s ≡ Some state → may_come f ≡ true
@@ -89,7 +89,8 @@ pub record IsBeside (d : Database) (s : State) : Type 0 where
   pub no_origin : d.trees (origin_tree Migrated) ≡ []
   pub no_resent : d.trees (resent_tree Migrated) ≡ []
 
--- the entries of the inbox were copied to the later table; the pieces of their contents are shared out: some were moved to the later table of them, and some are left
+-- The entries of the inbox were copied to the later table. The pieces of their contents are shared out: some were moved to the later table of pieces,
+-- and some are left.
 pub record AreShared (d : Database) (s : State) : Type 0 where
   pub schema : d.schema ≡ store_schema Migrated
   pub meta : d.trees meta_tree ≡ meta_row 1 s.next_in s.next_out ∷ []

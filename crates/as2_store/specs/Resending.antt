@@ -33,8 +33,8 @@ pub record IsMarked (rows : List Row) (outbox : List OutEntry) (n : ℕ) : Type 
   pub resent : HasResent rows outbox
   pub own : AllByRecursion (λ d. (d.number == n) ≡ true → d.begun ≡ resent.was d.number) outbox
 
--- the tables stand for this state still; and the document of this number may be given so many tries, since it is begun by them or by
--- its row
+-- The tables stand for this state still. The document of this number may be given so many tries, since it is begun by them or by its
+-- row.
 pub record IsReady (way : Way) (d : Database) (s : State) (n tries : ℕ) : Type 0 where
   pub stands : Stands (VersionThree way) d s
   pub marked : nat_le 1 tries ≡ false → IsMarked (d.trees (resent_tree way)) s.outbox n

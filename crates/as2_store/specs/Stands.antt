@@ -138,8 +138,8 @@ AreEmptied trees d = AllByRecursion (λ tree. d.trees tree ≡ []) trees
 unfoldable pub IsWhole : Database → Type 0
 IsWhole d = IsDatabase d
 
--- the tables are those of this version and stand for this state: they are these and no others, `meta` has the counters, and the
--- counters are above all numbers; they stand for no other state (the law `one_state_stands`)
+-- The tables are those of this version and stand for this state. They are these and no others. `meta` has the counters, and the
+-- counters are above all numbers. The tables stand for no other state (the law `one_state_stands`).
 pub record Stands (layout : Layout) (d : Database) (s : State) : Type 0 where
   pub sound : IsWhole d
   pub schema : d.schema ≡ schema_of layout
@@ -156,8 +156,8 @@ pub record Holds (d : Database) (s : State) : Type 0 where
   pub way : Way
   pub stands : Stands (VersionThree way) d s
 
--- outside a transaction the tables hold this state, unless a fault of the disk has shut the connection; it is one of a version that
--- knows each digest
+-- Outside a transaction the tables hold this state, unless a fault of the disk has shut the connection. The state is of a version
+-- that knows each digest.
 pub record Rests (c : Connected) (s : State) : Type 0 where
   pub autocommit : c.in_transaction ≡ false
   pub stands : IsTrue c.is_open → Holds c.now s

@@ -100,7 +100,8 @@ impl<S: Alter> Store<S> {
     }
 
     /// Takes a connection whose tables are those of a store. Answers NotAStore where the table `meta` can't be read, or
-    /// doesn't hold one row with the kind of a store; OtherVersion where its version isn't 3; Memory, Disk or Refused.
+    /// doesn't hold one row with the kind of a store. Answers OtherVersion where its version isn't 3. Answers also
+    /// Memory, Disk or Refused.
     pub fn adopt(mut conn: Connection<S>) -> Result<Store<S>, (Connection<S>, StoreFault)>
         requires autocommit { conn.in_transaction ≡ false }
         ensures adopted { IfOk result (λ store. Adopts (state S.Store conn) (state S.Store store)) }
@@ -115,8 +116,9 @@ impl<S: Alter> Store<S> {
     }
 
     /// Takes a connection whose tables are those of a store of version 1 or 2, and makes them those of version 3, in one transaction.
-    /// Answers NotAStore where the table `meta` can't be read, or doesn't hold one row with the kind of a store; OtherVersion where its
-    /// version isn't 1 or 2; Memory, Disk, Refused or Damaged; and then the tables are as they were.
+    /// Answers NotAStore where the table `meta` can't be read, or doesn't hold one row with the kind of a store. Answers
+    /// OtherVersion where its version isn't 1 or 2. Answers also Memory, Disk, Refused or Damaged. Whatever fault is answered, the
+    /// tables are as they were.
     pub fn migrate(mut conn: Connection<S>) -> Result<Store<S>, (Connection<S>, StoreFault)>
         requires autocommit { conn.in_transaction ≡ false }
         ensures migrated { IfOk result (λ store. Migrates (state S.Store conn) (state S.Store store)) }
@@ -165,9 +167,9 @@ impl<S: Alter> Store<S> {
         origin_in(&rows).map_err(|error| unread_column(error, place))
     }
 
-    /// Adds an entry to the inbox under the next number of a receipt, as `next_numbers` gives it. Answers Full exactly where the
-    /// number is past 999,999,999,999, and then touches nothing; Refused where it isn't the next, where another entry has its sender, receiver
-    /// and identifier value, and where a number of it fits no column; Memory, Disk or Refused. A fault leaves the state.
+    /// Adds an entry to the inbox under the next number of a receipt, as `next_numbers` gives it. Answers Full exactly where the number is
+    /// past 999,999,999,999, and then touches nothing. Answers Refused where it isn't the next, where another entry has its sender, receiver
+    /// and identifier value, and where a number of it fits no column. Answers also Memory, Disk or Refused. A fault leaves the state.
     pub fn add_in(&mut self, entry: &InEntry) -> Result<(), StoreFault>
         ensures added { WritesTables (state_with entry.now) (state S.Store self.old) (state S.Store self.new) result }
         ensures full { IfErr result (λ f. f ≡ Full → end_of_numbers ≤ entry.now.number) }
@@ -184,10 +186,10 @@ impl<S: Alter> Store<S> {
         add(&mut self.conn, entry).map_err(fault_of)
     }
 
-    /// Adds a document that no receipt has settled to the outbox under the next number of a document, as `next_numbers` gives it.
-    /// Answers Full exactly where the number is past 999,999,999,999, and then touches nothing; Refused where it isn't the next, where
-    /// another document has an identifier of its value, where a number of it fits no column, and where it is begun and not tried, or tried and
-    /// not begun; Memory, Disk or Refused. A fault leaves the state.
+    /// Adds a document that no receipt has settled to the outbox under the next number of a document, as `next_numbers` gives it. Answers Full
+    /// exactly where the number is past 999,999,999,999, and then touches nothing. Answers Refused where it isn't the next, where another
+    /// document has an identifier of its value, and where a number of it fits no column. So too where it is begun and not tried, or tried and
+    /// not begun. Answers also Memory, Disk or Refused. A fault leaves the state.
     pub fn add_out(&mut self, entry: &OutEntry) -> Result<(), StoreFault>
         requires unsettled { entry.now.evidence ≡ None }
         ensures added { WritesTables (added_document entry.now) (state S.Store self.old) (state S.Store self.new)

@@ -1,5 +1,5 @@
-//! Tables of the first version that become those of the third, over files that stop at each call of the disk in turn: what is found is
-//! of one of the two with the same entries, and of the third where the migration was done; and a further migration comes to the same end.
+//! Tables of the first version that become those of the third, over files that stop at each call of the disk in turn. What is found is of
+//! one of the two with the same entries, and of the third where the migration was done. A further migration comes to the same end.
 ghost use Rattle.std.specs.Prelude.{◌≡◌, IfSome, false};
 
 use crate::agreements::AGREEMENTS;

@@ -9,8 +9,8 @@ pub struct Line {
     pub text: String,
 }
 
-/// What a line adds to a text, and the line end behind it, as they are spelled in a script: `> ` begins a line that ends in CR LF,
-/// `| ` one that ends in LF, `. ` one without an end, and `! ` stands in a text itself.
+/// What a line adds to a text, and the line end behind it, as they are spelled in a script. `> ` begins a line that ends in CR LF,
+/// `| ` one that ends in LF, `. ` one without an end. `! ` stands in a text itself.
 fn piece_of(line: &str) -> Option<(&str, &'static str)> {
     if line.starts_with("!") {
         return Some((line, "\\n"));

@@ -24,8 +24,8 @@ fn add_times(alloc: Global, out: &mut String, text: &str, count: u64) -> Result<
     Ok(())
 }
 
-/// Adds what a sign stands for: a text by its name, `NAME WORD` for the text with the word in place of each `%`, or `TEXT*COUNT` for
-/// a text, or the one of that name, so many times.
+/// Adds what a sign stands for. A name stands for its text, and `NAME WORD` for the text with the word in place of each `%`.
+/// `TEXT*COUNT` stands for a text, or the one of that name, so many times.
 fn add_sign(
     alloc: Global,
     out: &mut String,

@@ -2,8 +2,8 @@
 //!
 //! The text `clock` is the moment that the clock tells, where it isn't `none`. Standard input is the text `input`, in parts behind `||`,
 //! of which no read gives bytes of two. `sound-reads`, `sound-writes` and `sound-error-writes` say how many calls of the three streams
-//! succeed, `bytes-a-read` and `bytes-a-write` how many bytes one gives or takes at most; with the text `stuck` the call that doesn't
-//! succeed takes no byte in place of failing.
+//! succeed. `bytes-a-read` and `bytes-a-write` say how many bytes one gives or takes at most. With the text `stuck` the call that
+//! doesn't succeed takes no byte in place of failing.
 use crate::scene::Asked;
 use crate::streams::{Calls, calls_by};
 use script_lines::{Answer, Settings, Trouble};

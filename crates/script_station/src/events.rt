@@ -1,7 +1,7 @@
 //! Lines that tell an event: the moment, its name and its numbers, and behind ` | ` what it brings.
 //!
 //! `post`, the replies and `submit` bring a content: a count of letters `a`, the name of a text, or a text without `:` and ` -> `. A
-//! post and a reply have the fields `NAME: VALUE` of the text `CONTENT-fields`, where there is one, else of `post-fields`; a field of
+//! post and a reply have the fields `NAME: VALUE` of the text `CONTENT-fields`, where there is one, else of `post-fields`. A field of
 //! the line stands in place of the one of its name, and is left out where it has no value. Each `OLD -> NEW` is a change in the content.
 use crate::made::{change, copied, made};
 use as2_exchange::{Event, TryAnswer};

@@ -166,9 +166,9 @@ fn go_on(stage: &mut Stage, verb: &str, text: &str, answer: &mut Answer) {
 
 /// Answers to the verbs of databases; whether it is one.
 ///
-/// `database STATEMENTS` adopts a new database after these, and `execute STATEMENTS` the list's store; `make STATEMENTS | QUERY` makes a
-/// store on a new database after these, and `make-again STATEMENTS | QUERY` on the list's store; `migrate STATEMENTS` has the tables of a
-/// new database after these become those of the third version, and `migrate-again STATEMENTS` those of the list's store; `query QUERY`
+/// `database STATEMENTS` adopts a new database after these, and `execute STATEMENTS` the list's store. `make STATEMENTS | QUERY` makes a
+/// store on a new database after these, and `make-again STATEMENTS | QUERY` on the list's store. `migrate STATEMENTS` has the tables of a
+/// new database after these become those of the third version, and `migrate-again STATEMENTS` those of the list's store. `query QUERY`
 /// shows rows.
 pub fn answer(stage: &mut Stage, verb: &str, rest: &str, answer: &mut Answer) -> bool {
     if !matches!(

@@ -77,8 +77,8 @@ fn say_kept_in_steps(content: &[u8], step: &str, answer: &mut Answer) {
     }
 }
 
-/// `keep-content STEP .. | CONTENT`: what is kept of a content that is appended in such steps: how many bytes and pieces, and how many
-/// bytes in the last of these, and its MICs by SHA-1, by MD5 and by SHA-256.
+/// `keep-content STEP .. | CONTENT`: what is kept of a content that is appended in such steps. That is how many bytes and pieces, how
+/// many bytes in the last of these, and its MICs by SHA-1, by MD5 and by SHA-256.
 fn keep_content(rest: &str, answer: &mut Answer) {
     let (steps, content) = answer.two_words(rest);
     let content = content_of(content, answer);

@@ -78,8 +78,8 @@ fn single_bytes<'a>(text: &'a [u8], answer: &mut Answer) -> Vec<&'a [u8]> {
     single
 }
 
-/// `chunked TEXT`: what a text comes to whole, in each cutting into two, and byte by byte: `open` and the bytes of body that came,
-/// `whole` with the length of the body and where in the text it ends, `bad`, or `too large`.
+/// `chunked TEXT`: what a text comes to whole, in each cutting into two, and byte by byte. That is `open` and the bytes of body
+/// that came, `whole` with the length of the body and where in the text it ends, `bad`, or `too large`.
 fn chunked(rest: &str, answer: &mut Answer) {
     let text = answer.bytes_of(rest);
     let text = text.as_slice();

@@ -80,8 +80,8 @@ fn say_change(answer: &mut Answer, length: usize, read: &Answer, last: &Answer) 
     }
 }
 
-/// Answers with what is read of the first bytes of a body, of none, one, two and so on up to all of them: a line for each number of
-/// bytes that is read otherwise than one byte less.
+/// Answers with what is read of the first bytes of a body, of none, one, two and so on up to all of them. There is a line for each
+/// number of bytes that is read otherwise than one byte less.
 fn say_cut_readings(answer: &mut Answer, media: &MediaType<'_>, body: &[u8], content: &[u8]) {
     let mut last = Answer::new(answer.alloc());
     for length in 0..=body.len() {

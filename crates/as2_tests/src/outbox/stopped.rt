@@ -1,5 +1,5 @@
-//! Lists of events that a stop breaks off, at each call of the disk in turn: what is found is what was answered, perhaps with the
-//! event that was under way, and the list goes on from there to the same end.
+//! Lists of events that a stop breaks off, at each call of the disk in turn. What is found is what was answered, perhaps with the
+//! event that was under way. The list goes on from there to the same end.
 use super::lists::{LISTS, Row};
 use crate::agreements::AGREEMENTS;
 use crate::texts::{event_of, is_said, texts};
