@@ -195,14 +195,24 @@ def ask_all(pair):
 
 
 def limited(given, folder, made, differences):
-    """A document for which `--store-limit` leaves room beside the store's file: the log of a station that runs takes none of it."""
+    """A document for which `--store-limit` leaves room beside the store's file and not beside its log too, which a station that runs has. Over
+    the same files a command says the same without a station. Once the station has stopped, no log is left, and there is room."""
     live, direct = (copied(given.program, f"{folder}/{name}", made) for name in ("live-limit", "direct-limit"))
     pair = Pair(live, direct, differences)
     limit = (os.path.getsize(made.path(made.store)) + 700_000) // MIB + 1
+    last = f"--store-limit {limit} SUBMIT half"
     with Running(live) as station:
-        for words in commands_in(f"SUBMIT order | SUBMIT other | --store-limit {limit} SUBMIT half"):
+        for words in commands_in("SUBMIT order | SUBMIT other"):
+            pair.command(*words)
+        for end in ("", "-wal"):
+            shutil.copy(live.path(live.store + end), direct.path(direct.store + end))
+        differences.expect("commands: files near the limit", os.path.getsize(live.path(live.store + "-wal")) > 0, True)
+        for words in commands_in(last):
             pair.command(*words)
         differences.expect("commands: it stops behind a limit", station.stop(), STOPPED)
+    for words in commands_in(last):
+        pair.command(*words)
+    pair.same("the tables at the limit", dump(live), dump(direct))
     return pair.tried
 
 
