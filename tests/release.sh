@@ -2,6 +2,7 @@
 # Shows what a fresh checkout does with the release in dist/: with exactly its sources, and without `rt` on the path, the program starts;
 # with one changed byte of a source, of the release or of its text it isn't taken, and the start says why. With the word `build` the
 # program is built from nothing in another folder as well, which takes as long as a first start, and has to be the release's byte for byte.
+# With `build FOLDER` it is the program that was built in that checkout, as by `rt ci`; the checkout has to be of the same sources.
 set -eu
 top=$(cd "$(dirname "$0")/.." && pwd)
 room=$(mktemp -d)
@@ -45,12 +46,20 @@ fresh
 rm dist/as2desk-x86_64-linux.xz
 says "there is no release beside these sources"
 if [ "${1-}" = build ]; then
-    fresh
-    ./as2desk --prove
-    wanted=$(sed -n 's/^program: //p' dist/as2desk-x86_64-linux.txt)
-    [ "$(sha256sum < crates/as2desk/out/as2desk | cut -d' ' -f1)" = "$wanted" ] || {
-        echo "WRONG the program that was built here is another than the release's"
+    built=${2-}
+    if [ -z "$built" ]; then
+        fresh
+        ./as2desk --prove
+        built=$room/checkout
+    fi
+    text=$top/dist/as2desk-x86_64-linux.txt
+    [ "$(cd "$built" && tools/sources.sh "$(rt version)")" = "$(sed -n 's/^sources: //p' "$text")" ] || {
+        echo "WRONG what was built there is of other sources than the release"
         exit 1
     }
-    echo "ok    built here, byte for byte the release's"
+    [ "$(sha256sum < "$built/crates/as2desk/out/as2desk" | cut -d' ' -f1)" = "$(sed -n 's/^program: //p' "$text")" ] || {
+        echo "WRONG the program that was built there is another than the release's"
+        exit 1
+    }
+    echo "ok    built there, byte for byte the release's"
 fi
