@@ -5,6 +5,7 @@
 # With `build FOLDER` it is the program that was built in that checkout, as by `rt ci`; the checkout has to be of the same sources.
 set -eu
 top=$(cd "$(dirname "$0")/.." && pwd)
+built=${2:+$(cd "$2" && pwd)}
 room=$(mktemp -d)
 trap 'rm -rf "$room"' EXIT
 without_rt=$(echo "$PATH" | tr ':' '\n' | while read -r at; do [ -x "$at/rt" ] || echo "$at"; done | paste -sd:)
@@ -46,7 +47,6 @@ fresh
 rm dist/as2desk-x86_64-linux.xz
 says "there is no release beside these sources"
 if [ "${1-}" = build ]; then
-    built=${2-}
     if [ -z "$built" ]; then
         fresh
         ./as2desk --prove
