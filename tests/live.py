@@ -14,6 +14,7 @@
     stop       `stop`, with slow requests under way too; other agreements; what is refused while a station runs
     lines      what it says on standard error, also where nobody reads it
     memory     some minutes of load, behind which it has no more memory
+    lost       a disk that gets full while many post at once: who was answered is recorded, and who wasn't was told nothing
     sending    documents to four partners: one hangs, one refuses, one answers a byte a second, one posts its receipts half an hour later
     sending-kills  `kill -9` while it sends: no document is lost or tried too often, and all are settled afterwards
     silent     silent addresses and a partner that hangs: an honest document goes out beside them
@@ -44,6 +45,7 @@ import cutting
 import doors
 import killing
 import lasting
+import losing
 import many
 import replies
 import running
@@ -55,7 +57,7 @@ from station import STARTER, Differences
 CASES = {
     "crowd": many.crowd, "slow": slow.slow, "greedy": slow.greedy, "broken": many.broken, "full": many.full, "kills": killing.kills,
     "commands": asking.commands, "two": doors.two, "control": doors.control, "stop": stopping.stop, "lines": stopping.lines,
-    "memory": lasting.memory, "replies": replies.replies, "sending": sending.sending, "sending-kills": cutting.sending_kills, "silent": sending.silent,
+    "memory": lasting.memory, "lost": losing.lost, "replies": replies.replies, "sending": sending.sending, "sending-kills": cutting.sending_kills, "silent": sending.silent,
     "links": sending.links, "gone": sending.gone, "receipts-to": sending.receipts_to, "halts": sending.halts, "latency": sending.latency,
 }
 

@@ -4,13 +4,14 @@ ghost use Rattle.as2_exchange.specs.State.{end_of_numbers};
 ghost use Rattle.as2_exchange.specs.declared.fault.StoreFault.TheVariants.{Disk, Full};
 ghost use Rattle.as2_records.specs.Adding.{state_with, added_document};
 ghost use Rattle.as2_records.specs.Calls.{Writes};
+ghost use Rattle.as2_records.specs.Rounds.{IsLost, PassesOn, StaysOpen};
 ghost use Rattle.as2_records.specs.Standing.{may_come};
 ghost use Rattle.as2_bounded.specs.Rooms.{room_behind, room_of};
 
 use as2_exchange::{END_OF_NUMBERS, Evidence, InEntry, OutEntry, StoreFault};
 use as2_mdn::{Detail, DetailClass};
 use as2_records::{
-    Counts, Discrepancy, InRow, NextNumbers, OutRow, Progress, ReceiptProgress, Records,
+    Counts, Discrepancy, InRow, NextNumbers, OutRow, Progress, ReceiptProgress, Records, Rounds,
 };
 use as2_text::{AsName, Moment};
 use std::alloc::Global;
@@ -271,4 +272,69 @@ impl<R: Records> Records for Bounded<R> {
     ghost stop_leaves = { λ lasting b. R.stop_leaves lasting b.records };
 
     ghost rests_last = { λ b. R.rests_last b.records };
+}
+
+impl<R: Rounds> Rounds for Bounded<R> {
+    type Round = Bounded<R::Round>;
+
+    fn hold(self) -> Result<Bounded<R::Round>, (Bounded<R>, StoreFault)>
+        ensures begun { IfOk result (λ round. PassesOn (R.shows self.records) (R.Round.shows round.records)) }
+        ensures open { IfOk result (λ round. StaysOpen (R.shows self.records) (R.Round.shows round.records)) }
+        ensures back { IfErr result (λ e. PassesOn (R.shows self.records) (R.shows e.0.records)) }
+        ensures fault { IfErr result (λ e. may_come e.1 ≡ true) }
+        ensures room { IfOk result (λ round. round.room ≡ self.room) }
+        ensures refused { IfOk result (λ round. round.refused ≡ self.refused) }
+        ensures same_room { IfErr result (λ e. e.0.room ≡ self.room) }
+        ensures same_refused { IfErr result (λ e. e.0.refused ≡ self.refused) }
+    {
+        let Bounded {
+            records,
+            room,
+            refused,
+        } = self;
+        match records.hold() {
+            Ok(records) => Ok(Bounded {
+                records,
+                room,
+                refused,
+            }),
+            Err((records, fault)) => Err((
+                Bounded {
+                    records,
+                    room,
+                    refused,
+                },
+                fault,
+            )),
+        }
+    }
+
+    fn commit(round: Bounded<R::Round>) -> Result<Bounded<R>, Bounded<R::Round>>
+        ensures committed { IfOk result (λ records. PassesOn (R.Round.shows round.records) (R.shows records.records)) }
+        ensures still_open { IfOk result (λ records. StaysOpen (R.Round.shows round.records)
+            (R.shows records.records)) }
+        ensures lost { IfErr result (λ left. IsLost (R.Round.shows round.records) (R.Round.shows left.records)) }
+        ensures room { IfOk result (λ records. records.room ≡ round.room) }
+        ensures refused { IfOk result (λ records. records.refused ≡ round.refused) }
+        ensures same_room { IfErr result (λ left. left.room ≡ round.room) }
+        ensures same_refused { IfErr result (λ left. left.refused ≡ round.refused) }
+    {
+        let Bounded {
+            records,
+            room,
+            refused,
+        } = round;
+        match R::commit(records) {
+            Ok(records) => Ok(Bounded {
+                records,
+                room,
+                refused,
+            }),
+            Err(records) => Err(Bounded {
+                records,
+                room,
+                refused,
+            }),
+        }
+    }
 }

@@ -9,7 +9,7 @@ ghost use Rattle.as2_store.specs.Calls.{IsGivenBack};
 ghost use Rattle.as2_store.specs.Stands.{Rests};
 ghost use Rattle.as2_files.specs.Earlier.{HoldsEarlier};
 ghost use Rattle.as2_storage.specs.Files.{AreLeftBy};
-ghost use Rattle.as2_files.specs.Stores.{EndsIn, IfClosed, IfLeft, IsCleanEnd, NeedsNoLog, records_of_store};
+ghost use Rattle.as2_files.specs.Stores.{EndsIn, IfClosed, IfLeft, IsCleanEnd, NeedsNoLog, leaves_of_store};
 
 use crate::closing::opening_fault;
 use crate::keeping::End;
@@ -93,7 +93,7 @@ fn counted<S: Alter>(conn: &mut Connection<S>) -> Option<Entries>
 fn closed<D: Disk + Drop>(conn: Connection<FileStore<D>>) -> End<D>
     ensures clean { IsCleanEnd D.Disk (Some result) → HasCleanDisk (file_state conn) }
     ensures kept { IsCleanEnd D.Disk (Some result) → (s : State) → Rests (file_state conn) s
-        → EndsIn D.Disk records_of_store (AreLeftBy D.Disk) result s }
+        → EndsIn D.Disk (leaves_of_store D.Disk) result s }
     ensures left { IfLeft (AreLeftBy D.Disk conn) result }
     ensures alone { IfClosed (NeedsNoLog D.Disk) result }
 {
@@ -113,7 +113,7 @@ pub fn migrate_in_files<F: OpenFiles>(
 ) -> Result<Moved<F::Disk>, OpenFault>
     ensures moved { IfOk result (λ it. IsCleanEnd F.Disk.Disk (Some it.end) → (s : State)
         → HoldsEarlier (F.image name.now) s
-        → EndsIn F.Disk.Disk records_of_store (AreLeftBy F.Disk.Disk) it.end (migrated_if_first s)) }
+        → EndsIn F.Disk.Disk (leaves_of_store F.Disk.Disk) it.end (migrated_if_first s)) }
     ensures alone { IfOk result (λ it. IfClosed (NeedsNoLog F.Disk.Disk) it.end) }
 {
     let mut conn = match opener.open_files(rt, name) {

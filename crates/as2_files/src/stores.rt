@@ -5,23 +5,23 @@ ghost use Rattle.sqlite.specs.Steps.{over_memory};
 ghost use Rattle.as2_host.specs.Stores.{MayCome};
 ghost use Rattle.as2_store.specs.Calls.{empty_store};
 ghost use Rattle.as2_store.specs.Stands.{Rests};
-ghost use Rattle.as2_files.specs.Stores.{IsCleanEnd, FilesKeep};
+ghost use Rattle.as2_files.specs.Stores.{IsCleanEnd, FilesKeep, leaves_by};
 
 use crate::file_system::FileSystem;
 use crate::keeping::{End, KeepFiles};
 use crate::migrating::Moved;
 use crate::places::Place;
 use as2_commands::FirstNumber;
-use as2_host::{Migration, OpenFault, OpenStores};
+use as2_host::{Migration, OpenFault, OpenRounds, OpenStores};
 use as2_kept::{Kept, in_memory};
-use as2_records::Records;
+use as2_records::Rounds;
 use sqlite::MemStore;
 use std::alloc::Global;
 use std::marker::PhantomData;
 
 /// The files of one store, which are opened once.
 #[derive(Drop)]
-pub struct StoreFiles<'a, R: Records + Drop, K: KeepFiles<R> + Drop> {
+pub struct StoreFiles<'a, R: Rounds + Drop, K: KeepFiles<R> + Drop> {
     files: FileSystem<'a>,
     keeper: Option<K>,
     has_opened: bool,
@@ -42,7 +42,7 @@ fn new_in_memory(alloc: Global, first: FirstNumber) -> Result<Kept<MemStore>, Op
     }
 }
 
-impl<'a, R: Records + Drop, K: KeepFiles<R> + Drop> StoreFiles<'a, R, K> {
+impl<'a, R: Rounds + Drop, K: KeepFiles<R> + Drop> StoreFiles<'a, R, K> {
     /// They weren't opened yet.
     pub fn new(files: FileSystem<'a>, keeper: K) -> StoreFiles<'a, R, K> {
         StoreFiles {
@@ -56,7 +56,7 @@ impl<'a, R: Records + Drop, K: KeepFiles<R> + Drop> StoreFiles<'a, R, K> {
     }
 }
 
-impl<R: Records + Drop, K: KeepFiles<R> + Drop> OpenStores for StoreFiles<'_, R, K> {
+impl<R: Rounds + Drop, K: KeepFiles<R> + Drop> OpenStores for StoreFiles<'_, R, K> {
     ghost use Rattle.std.specs.Prelude.{⊤};
     ghost use Rattle.as2_files.specs.Earlier.{KeepsEarlier};
     ghost use Rattle.as2_files.specs.Names.{file_name};
@@ -66,7 +66,7 @@ impl<R: Records + Drop, K: KeepFiles<R> + Drop> OpenStores for StoreFiles<'_, R,
 
     type InMemory = Kept<MemStore>;
 
-    ghost keeps = { λ it path number s. FilesKeep K.Disk.Disk R.Records.shows K.left_of (K.image (file_name path)) it.end s };
+    ghost keeps = { λ it path number s. FilesKeep K.Disk.Disk (leaves_by R.shows K.left_of R.Round.shows K.lost_of) (K.image (file_name path)) it.end s };
 
     ghost fails = { λ it path fault. ⊤ };
 
@@ -140,5 +140,21 @@ impl<R: Records + Drop, K: KeepFiles<R> + Drop> OpenStores for StoreFiles<'_, R,
         }
         self.end = Some(end);
         Ok(migration)
+    }
+}
+
+impl<R: Rounds + Drop, K: KeepFiles<R> + Drop> OpenRounds for StoreFiles<'_, R, K> {
+    type Holding = R;
+
+    fn holding(records: R) -> R {
+        records
+    }
+
+    fn close_holding(&mut self, path: &str, records: R) {
+        self.close(path, records);
+    }
+
+    fn let_go(&mut self, _path: &str, round: R::Round) {
+        self.end = Some(K::let_go(round));
     }
 }

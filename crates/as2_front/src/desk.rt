@@ -1,12 +1,15 @@
 //! The station as a desk: it answers the requests of many connections, one after the other.
-ghost use Rattle.std.specs.Prelude.{◌≡◌};
+ghost use Rattle.std.specs.Prelude.{◌≡◌, true, IfErr, IfOk};
 ghost use Rattle.as2_exchange.specs.declared.answer.Answer.TheVariants.{Ticked};
 ghost use Rattle.as2_exchange.specs.declared.event.Event.TheVariants.{Tick};
 ghost use Rattle.as2_records.specs.Calls.{Reads};
+ghost use Rattle.as2_records.specs.Rounds.{StaysOpen};
+ghost use Rattle.as2_records.specs.Standing.{may_come};
 ghost use Rattle.as2_station.specs.Due.{destination, next_behind};
 ghost use Rattle.as2_station.specs.Said.{begin_event, outcome_event, said_to_begin, said_to_outcome};
 ghost use Rattle.as2_station.specs.Steps.{TakesEvent};
 ghost use Rattle.as2_front.specs.Answers.{GivesReply, conduct_by};
+ghost use Rattle.as2_front.specs.Rounds.{LosesDesk, PassesDesk};
 
 use crate::log::{Log, LogLine};
 use as2_agreement::Agreements;
@@ -14,13 +17,13 @@ use as2_exchange::{Bytes, HttpAnswer, Next, StoreFault, TryAnswer};
 use as2_http::{Journal, identifier_told, name_told, respond};
 use as2_hub::{Desk, Replied, Reply};
 use as2_messages::{Form, Method, Refused, Request, Target, refusal, write_reply};
-use as2_records::Records;
+use as2_records::{Records, Rounds};
 use as2_station::{Begun, Ended, Station};
 use as2_text::Moment;
 use std::alloc::Global;
 
-/// The station, its agreements and the moment at which it answers. What it answers is committed at once, so that no
-/// round is lost.
+/// The station, its agreements and the moment at which it answers. What it answers is in its records at once, so that the hub loses no
+/// round. Where the records hold it back, it lasts from their commit on.
 #[derive(Drop)]
 pub struct StationDesk<'a, K: Records> {
     alloc: Global,
@@ -121,8 +124,8 @@ impl<'a, K: Records> StationDesk<'a, K> {
         self.station.destination(self.alloc, self.agreements, what)
     }
 
-    /// Begins a try of a receipt or a document at this moment: it is committed before its request is handed out. A fault of the records may
-    /// come in place of any other answer, and nothing is changed then.
+    /// Begins a try of a receipt or a document at this moment: it is in the records before its request is handed out. A fault of the records
+    /// may come in place of any other answer, and nothing is changed then.
     pub fn begin(&mut self, what: Next, moment: Moment) -> Result<Begun, StoreFault>
         ensures same { self.new ≡ record self.old { station = self.new.station } }
         ensures taken { TakesEvent self.old.agreements.now (begin_event what moment) said_to_begin
@@ -160,6 +163,78 @@ impl<'a, K: Records> StationDesk<'a, K> {
                 text: Vec::new(self.alloc),
                 stays: false,
             },
+        }
+    }
+}
+
+impl<'a, K: Rounds> StationDesk<'a, K> {
+    /// Begins a round of the records: what is written from now on is held back, to be committed at once. Where that fails the desk is given
+    /// back.
+    pub fn hold(self) -> Result<StationDesk<'a, K::Round>, (StationDesk<'a, K>, StoreFault)>
+        ensures begun { IfOk result (λ round. PassesDesk K.shows K.Round.shows self.entry round) }
+        ensures open { IfOk result (λ round. StaysOpen (K.shows self.entry.station) (K.Round.shows round.station)) }
+        ensures back { IfErr result (λ e. PassesDesk K.shows K.shows self.entry e.0) }
+        ensures fault { IfErr result (λ e. may_come e.1 ≡ true) }
+    {
+        let StationDesk {
+            alloc,
+            agreements,
+            moment,
+            station,
+            log,
+        } = self;
+        match station.into_records().hold() {
+            Ok(records) => Ok(StationDesk {
+                alloc,
+                agreements,
+                moment,
+                station: Station::new(records),
+                log,
+            }),
+            Err((records, fault)) => Err((
+                StationDesk {
+                    alloc,
+                    agreements,
+                    moment,
+                    station: Station::new(records),
+                    log,
+                },
+                fault,
+            )),
+        }
+    }
+
+    /// Commits what was written in a round, and ends it. Where that fails the round is lost, and its records are shut.
+    pub fn commit(
+        round: StationDesk<'a, K::Round>,
+    ) -> Result<StationDesk<'a, K>, StationDesk<'a, K::Round>>
+        ensures committed { IfOk result (λ desk. PassesDesk K.Round.shows K.shows round.entry desk) }
+        ensures still_open { IfOk result (λ desk. StaysOpen (K.Round.shows round.entry.station)
+            (K.shows desk.station)) }
+        ensures lost { IfErr result (λ left. LosesDesk K.Round.shows round.entry left) }
+    {
+        let StationDesk {
+            alloc,
+            agreements,
+            moment,
+            station,
+            log,
+        } = round;
+        match K::commit(station.into_records()) {
+            Ok(records) => Ok(StationDesk {
+                alloc,
+                agreements,
+                moment,
+                station: Station::new(records),
+                log,
+            }),
+            Err(records) => Err(StationDesk {
+                alloc,
+                agreements,
+                moment,
+                station: Station::new(records),
+                log,
+            }),
         }
     }
 }

@@ -1,1 +1,2 @@
 mod Writing
+mod Rounding

@@ -2,10 +2,12 @@
 #![tactic(auto)]
 
 mod opening;
+mod round;
+mod rounds;
 
 ghost use Rattle.std.specs.Prelude.{◌≡◌};
 
-use as2_exchange::{Evidence, InEntry, OutEntry, StoreFault};
+use as2_exchange::{END_OF_NUMBERS, Evidence, InEntry, OutEntry, StoreFault};
 use as2_mdn::{Detail, DetailClass};
 use as2_records::{
     Counts, Discrepancy, InRow, NextNumbers, OutRow, Progress, ReceiptProgress, Records,
@@ -13,11 +15,13 @@ use as2_records::{
 use as2_store::Store;
 use as2_text::{AsName, Moment};
 pub use opening::{adopt, create, in_memory};
+pub use round::HeldRound;
 use sqlite::{Alter, Connection};
 use std::alloc::Global;
 use std::marker::Model;
 
-/// Records over a connection.
+/// Records over a connection: each call commits what it writes. Where a transaction is open, which only a disk that has returned other
+/// bytes leaves open, a call is a fault of the disk.
 #[derive(Drop)]
 pub struct Kept<S: Alter> {
     store: Store<S>,
@@ -66,38 +70,71 @@ impl<S: Alter> Records for Kept<S> {
     ghost shows = { λ c. tables_standing (state S.Store c) };
 
     fn next_numbers(&mut self) -> Result<NextNumbers, StoreFault> {
+        if !self.store.is_alone() {
+            return Err(StoreFault::Disk);
+        }
         self.store.next_numbers()
     }
 
     fn origin(&mut self) -> Result<u64, StoreFault> {
+        if !self.store.is_alone() {
+            return Err(StoreFault::Disk);
+        }
         self.store.origin()
     }
 
     fn add_in(&mut self, entry: &InEntry) -> Result<(), StoreFault> {
+        if entry.number >= END_OF_NUMBERS {
+            return Err(StoreFault::Full);
+        }
+        if !self.store.is_alone() {
+            return Err(StoreFault::Disk);
+        }
         self.store.add_in(entry)
     }
 
     fn add_out(&mut self, entry: &OutEntry) -> Result<(), StoreFault> {
+        if entry.number >= END_OF_NUMBERS {
+            return Err(StoreFault::Full);
+        }
+        if !self.store.is_alone() {
+            return Err(StoreFault::Disk);
+        }
         self.store.add_out(entry)
     }
 
     fn requeue_receipt(&mut self, number: u64, moment: Moment) -> Result<(), StoreFault> {
+        if !self.store.is_alone() {
+            return Err(StoreFault::Disk);
+        }
         self.store.requeue_receipt(number, moment)
     }
 
     fn set_receipt(&mut self, number: u64, progress: ReceiptProgress) -> Result<(), StoreFault> {
+        if !self.store.is_alone() {
+            return Err(StoreFault::Disk);
+        }
         self.store.set_receipt(number, progress)
     }
 
     fn expire(&mut self, moment: Moment) -> Result<u64, StoreFault> {
+        if !self.store.is_alone() {
+            return Err(StoreFault::Disk);
+        }
         self.store.expire(moment)
     }
 
     fn set_out(&mut self, number: u64, progress: Progress) -> Result<(), StoreFault> {
+        if !self.store.is_alone() {
+            return Err(StoreFault::Disk);
+        }
         self.store.set_out(number, progress)
     }
 
     fn resend(&mut self, number: u64, moment: Moment) -> Result<(), StoreFault> {
+        if !self.store.is_alone() {
+            return Err(StoreFault::Disk);
+        }
         self.store.resend(number, moment)
     }
 
@@ -107,6 +144,9 @@ impl<S: Alter> Records for Kept<S> {
         detail: Detail,
         evidence: &Evidence,
     ) -> Result<(), StoreFault> {
+        if !self.store.is_alone() {
+            return Err(StoreFault::Disk);
+        }
         self.store.settle(number, detail, evidence)
     }
 
@@ -117,6 +157,9 @@ impl<S: Alter> Records for Kept<S> {
         receiver: &AsName,
         id_value: &str,
     ) -> Result<Option<InEntry>, StoreFault> {
+        if !self.store.is_alone() {
+            return Err(StoreFault::Disk);
+        }
         self.store.find_in(alloc, sender, receiver, id_value)
     }
 
@@ -125,10 +168,16 @@ impl<S: Alter> Records for Kept<S> {
         alloc: Global,
         number: u64,
     ) -> Result<Option<InEntry>, StoreFault> {
+        if !self.store.is_alone() {
+            return Err(StoreFault::Disk);
+        }
         self.store.find_in_number(alloc, number)
     }
 
     fn find_out(&mut self, alloc: Global, number: u64) -> Result<Option<OutEntry>, StoreFault> {
+        if !self.store.is_alone() {
+            return Err(StoreFault::Disk);
+        }
         self.store.find_out(alloc, number)
     }
 
@@ -137,10 +186,16 @@ impl<S: Alter> Records for Kept<S> {
         alloc: Global,
         id_value: &[u8],
     ) -> Result<Option<OutEntry>, StoreFault> {
+        if !self.store.is_alone() {
+            return Err(StoreFault::Disk);
+        }
         self.store.find_out_by_id(alloc, id_value)
     }
 
     fn due_out(&mut self, moment: Moment, behind: Option<u64>) -> Result<Option<u64>, StoreFault> {
+        if !self.store.is_alone() {
+            return Err(StoreFault::Disk);
+        }
         self.store.due_out(moment, behind)
     }
 
@@ -149,6 +204,9 @@ impl<S: Alter> Records for Kept<S> {
         moment: Moment,
         behind: Option<u64>,
     ) -> Result<Option<u64>, StoreFault> {
+        if !self.store.is_alone() {
+            return Err(StoreFault::Disk);
+        }
         self.store.due_receipt(moment, behind)
     }
 
@@ -157,22 +215,37 @@ impl<S: Alter> Records for Kept<S> {
         alloc: Global,
         wanted: Option<DetailClass>,
     ) -> Result<Vec<OutRow>, StoreFault> {
+        if !self.store.is_alone() {
+            return Err(StoreFault::Disk);
+        }
         self.store.list_out(alloc, wanted)
     }
 
     fn list_in(&mut self, alloc: Global) -> Result<Vec<InRow>, StoreFault> {
+        if !self.store.is_alone() {
+            return Err(StoreFault::Disk);
+        }
         self.store.list_in(alloc)
     }
 
     fn settled(&mut self, alloc: Global) -> Result<Vec<u64>, StoreFault> {
+        if !self.store.is_alone() {
+            return Err(StoreFault::Disk);
+        }
         self.store.settled(alloc)
     }
 
     fn counts(&mut self, alloc: Global) -> Result<Counts, StoreFault> {
+        if !self.store.is_alone() {
+            return Err(StoreFault::Disk);
+        }
         self.store.counts(alloc)
     }
 
     fn discrepancy(&mut self, alloc: Global) -> Result<Option<Discrepancy>, StoreFault> {
+        if !self.store.is_alone() {
+            return Err(StoreFault::Disk);
+        }
         self.store.discrepancy(alloc)
     }
 

@@ -7,6 +7,7 @@ mod due;
 mod inbox;
 mod lists;
 mod outbox;
+mod rounds;
 mod rows;
 
 pub use lists::Lists;

@@ -23,7 +23,7 @@ use Rattle.as2_station.specs.Said.{begin_event, outcome_event}
 use Rattle.as2_station.proofs.ByHistory.{ends_by_history, run_then}
 use Rattle.as2_station.specs.Steps.{TakesEvent}
 use Rattle.as2_station.specs.Theorem.{said_as}
-use Rattle.as2_live.specs.Living.{AtALink, AtAPlace, Answers, AnswersPlaces, BeginsTry, Commanded, EndsTry, LeadsByOne, LeadsTo, LiveHistory, LivesBy, LivesFrom, LivesOn, Ticks, at_links, at_places, opened_for, at_a_link}
+use Rattle.as2_live.specs.Living.{AtALink, AtAPlace, Answers, AnswersPlaces, BeginsTry, Commanded, EndsTry, LeadsByOne, LeadsTo, LiveHistory, LivesAcross, LivesBy, LivesFrom, LivesOn, LivesOnAcross, LosesLive, PassesLive, Ticks, at_links, at_places, opened_for, at_a_link}
 use Rattle.as2_live.specs.declared.live.Live.{Live}
 
 at_places_of_both : (late early : LiveHistory) → at_places (late ++ early) ≡ at_places late ++ at_places early
@@ -122,10 +122,12 @@ module _ {M : Medium} {K : Type 0} (shows : K → Standing M) where
     };
   })
 
-  -- the state that two histories led to, one behind the other
-  from_then : (a b c : Live K) (early late : LiveHistory) (s : State) → b.desk.agreements.now ≡ a.desk.agreements.now
-      → (mid : LivesFrom shows b a.desk.agreements.now early s) → LivesFrom shows c b.desk.agreements.now late mid.left
-      → LivesFrom shows c a.desk.agreements.now (late ++ early) s
+-- One history behind the other, over records of up to three types.
+module _ {M N O : Medium} {K L J : Type 0} (shows : K → Standing M) (shows_mid : L → Standing N) (shows_new : J → Standing O) where
+  -- the state that two histories led to
+  from_then : (a : Live K) (b : Live L) (c : Live J) (early late : LiveHistory) (s : State) → b.desk.agreements.now ≡ a.desk.agreements.now
+      → (mid : LivesFrom shows_mid b a.desk.agreements.now early s) → LivesFrom shows_new c b.desk.agreements.now late mid.left
+      → LivesFrom shows_new c a.desk.agreements.now (late ++ early) s
   from_then a b c early late s agreed mid end =
       let A = a.desk.agreements.now in
       let same : b.desk.agreements.now ≡ A = agreed in
@@ -141,8 +143,9 @@ module _ {M : Medium} {K : Type 0} (shows : K → Standing M) where
         by_history = ends_by_history A s (mid.trace ++ end.trace) end.left run;
       }
 
-  pub lives_then : (a b c : Live K) (early late : LiveHistory) → LivesBy shows a early b → LivesBy shows b late c → LivesBy shows a (late ++ early) c
-  lives_then a b c early late first second =
+  pub across_then : (a : Live K) (b : Live L) (c : Live J) (early late : LiveHistory) → LivesAcross shows shows_mid a early b
+      → LivesAcross shows_mid shows_new b late c → LivesAcross shows shows_new a (late ++ early) c
+  across_then a b c early late first second =
       let both = at_places_of_both late early in
       let along : (h : Happenings) → at_places (late ++ early) ++ h ≡ at_places late ++ (at_places early ++ h)
       = λ h. ap (λ (l : Happenings). l ++ h) both ∙ append_assoc (at_places late) (at_places early) h in
@@ -166,9 +169,70 @@ module _ {M : Medium} {K : Type 0} (shows : K → Standing M) where
             from_then a b c early late s first.agreed mid (second.lives clean mid.left mid.rests);
       }
 
+  pub on_across : (a : Live K) (b : Live L) (c : Live J) → LivesOnAcross shows shows_mid a b → LivesOnAcross shows_mid shows_new b c
+      → LivesOnAcross shows shows_new a c
+  on_across a b c (early, first) (late, second) = (late ++ early, across_then a b c early late first second)
+
+-- Another live station that has taken its place.
+module _ {M N : Medium} {K L : Type 0} (shows : K → Standing M) (shows_new : L → Standing N) where
+  pub passes_by : (a : Live K) (b : Live L) → PassesLive shows shows_new a b → LivesAcross shows shows_new a [] b
+  passes_by a b it =
+      let agreed : b.desk.agreements.now ≡ a.desk.agreements.now = ap (λ r. r.now) it.desk.beside.agreements in
+      record {
+        stands = λ h stand. subst (λ (g : Hub). StandAfter (places g) h) (sym it.hub) stand;
+        answer = λ h stand waited. waited;
+        bounded = subst (λ (g : Hub). KeepsBounds a.hub g) (sym it.hub) (record { bounds = refl; within = λ within. within });
+        linked = λ h stand. subst (λ (t : LinkTable). LinksStand t h) (sym it.links) stand;
+        agreed = agreed;
+        clean = it.desk.station.clean;
+        lives = λ clean s rests. record {
+          trace = [];
+          left = s;
+          rests = it.desk.station.same clean s rests;
+          leads = (refl, refl);
+          run = refl;
+          by_history = ends_by_history a.desk.agreements.now s [] s refl;
+        };
+      }
+
+  pub passes_on : (a : Live K) (b : Live L) → PassesLive shows shows_new a b → LivesOnAcross shows shows_new a b
+  passes_on a b it = ([], passes_by a b it)
+
+-- A round, over its own records: what happened in one that was begun.
+module _ {M N : Medium} {K L : Type 0} (shows : K → Standing M) (round : L → Standing N) (a : Live K) (b c : Live L) where
+  begun_then : (h : LiveHistory) → PassesLive shows round a b → LivesBy round b h c → LivesAcross shows round a h c
+  begun_then h begun lives = subst (λ (l : LiveHistory). LivesAcross shows round a l c) (append-nil h)
+      (across_then shows round round a b c [] h (passes_by shows round a b begun) lives)
+
+  -- .. and committed
+  pub held_then : (d : Live K) (h : LiveHistory) → PassesLive shows round a b → LivesBy round b h c → PassesLive round shows c d
+      → LivesBy shows a h d
+  held_then d h begun lives committed =
+      across_then shows round shows a c d h [] (begun_then h begun lives) (passes_by round shows c d committed)
+
+  pub held_on : (d : Live K) → PassesLive shows round a b → LivesOn round b c → PassesLive round shows c d → LivesOn shows a d
+  held_on d begun (h, lives) committed = (h, held_then d h begun lives committed)
+
+  -- .. or lost: its records, which a fault has shut, stand for what it led to as far as they are clean
+  pub lost_then : (d : Live L) (h : LiveHistory) → PassesLive shows round a b → LivesBy round b h c → LosesLive round c d
+      → LivesAcross shows round a h d
+  lost_then d h begun lives lost =
+      across_then shows round round a c d h [] (begun_then h begun lives) (passes_by round round c d (record {
+        hub = lost.hub;
+        links = lost.links;
+        desk = record { beside = lost.desk.beside; station = lost.desk.station.passes };
+      }))
+
+  pub lost_on : (d : Live L) → PassesLive shows round a b → LivesOn round b c → LosesLive round c d → LivesOnAcross shows round a d
+  lost_on d begun (h, lives) lost = (h, lost_then d h begun lives lost)
+
+module _ {M : Medium} {K : Type 0} (shows : K → Standing M) where
+  pub lives_then : (a b c : Live K) (early late : LiveHistory) → LivesBy shows a early b → LivesBy shows b late c → LivesBy shows a (late ++ early) c
+  lives_then = across_then shows shows shows
+
   -- something that happened, or nothing
   pub on_none : (a : Live K) → LivesOn shows a a
-  on_none a = ([], lives_none a a refl)
+  on_none a = ([], lives_none shows a a refl)
 
   pub on_then : (a b c : Live K) → LivesOn shows a b → LivesOn shows b c → LivesOn shows a c
   on_then a b c (early, first) (late, second) = (late ++ early, lives_then a b c early late first second)

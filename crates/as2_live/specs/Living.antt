@@ -16,6 +16,7 @@ use Rattle.as2_hub.specs.Happenings.{Happening, Happenings, Opens, Comes, Keeps,
 use Rattle.as2_hub.specs.Places.{StandAfter, places}
 use Rattle.as2_hub.specs.Rounds.{AnswerWhatWaited}
 use Rattle.as2_hub.specs.Turns.{called_places, places_asked}
+use Rattle.as2_front.specs.Rounds.{LosesDesk, PassesDesk}
 use Rattle.as2_front.specs.Serving.{AnswersCalls}
 use Rattle.as2_links.specs.Happenings.{Begins, Cuts, Ends, Hears, LinkHappening, LinkHappenings, Sends, if_so}
 use Rattle.as2_links.specs.Links.{LinksStand, MayOpen, link_in, links_of}
@@ -142,17 +143,39 @@ module _ {M : Medium} {K : Type 0} (shows : K → Standing M) where
     pub run : Run A s trace left
     pub by_history : EndsByHistory A s trace left
 
+module _ {M N : Medium} {K L : Type 0} (shows : K → Standing M) (shows_new : L → Standing N) where
   -- This happened in between. Whatever happened before, the connections stand as after it, and what waited was answered and nothing else.
-  -- The links stand as after it, and what happened at them was right. The records stand for the state that it led to.
-  pub record LivesBy (old : Live K) (history : LiveHistory) (new : Live K) : Type 0 where
+  -- The links stand as after it, and what happened at them was right. The records, perhaps of another type, stand for the state that it led to.
+  pub record LivesAcross (old : Live K) (history : LiveHistory) (new : Live L) : Type 0 where
     pub stands : (h : Happenings) → StandAfter (places old.hub) h → StandAfter (places new.hub) (at_places history ++ h)
     pub answer : (h : Happenings) → StandAfter (places old.hub) h → AnswerWhatWaited h → AnswerWhatWaited (at_places history ++ h)
     pub bounded : KeepsBounds old.hub new.hub
     pub linked : (h : LinkHappenings) → LinksStand old.links h → LinksStand new.links (at_links history ++ h)
     pub agreed : new.desk.agreements.now ≡ old.desk.agreements.now
-    pub clean : (shows new.desk.station).IsClean → (shows old.desk.station).IsClean
-    pub lives : (shows new.desk.station).IsClean → (s : State) → (shows old.desk.station).Rests s
-        → LivesFrom new old.desk.agreements.now history s
+    pub clean : (shows_new new.desk.station).IsClean → (shows old.desk.station).IsClean
+    pub lives : (shows_new new.desk.station).IsClean → (s : State) → (shows old.desk.station).Rests s
+        → LivesFrom shows_new new old.desk.agreements.now history s
+
+  -- something happened in between
+  abbrev pub LivesOnAcross : Live K → Live L → Type 0
+  LivesOnAcross old new = (history : LiveHistory) × LivesAcross old history new
+
+  -- Another live station has taken its place, over other records. What those stood for these stand for, and all else is as it was.
+  pub record PassesLive (old : Live K) (new : Live L) : Type 0 where
+    pub hub : new.hub ≡ old.hub
+    pub links : new.links ≡ old.links
+    pub desk : PassesDesk shows shows_new old.desk new.desk
+
+module _ {M : Medium} {K : Type 0} (shows : K → Standing M) where
+  -- a live station in a round that couldn't be committed
+  pub record LosesLive (old new : Live K) : Type 0 where
+    pub hub : new.hub ≡ old.hub
+    pub links : new.links ≡ old.links
+    pub desk : LosesDesk shows old.desk new.desk
+
+  -- this happened in between, over records of one type
+  abbrev pub LivesBy : Live K → LiveHistory → Live K → Type 0
+  LivesBy old history new = LivesAcross shows shows old history new
 
   -- a try began at that place, was refused, or a fault came; or no link could be opened there for it, and nothing happened
   abbrev pub BeginsOn : ℕ → Next → ℕ → Live K → Live K → TryBegun → Type 0

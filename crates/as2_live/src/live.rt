@@ -1,13 +1,14 @@
 //! A live station, as whoever has its sockets drives it.
-ghost use Rattle.std.specs.Prelude.{◌≡◌, ◌∷◌, [], min, is_some, length, slice_get, take, true};
+ghost use Rattle.std.specs.Prelude.{◌≡◌, ◌∷◌, [], IfErr, IfOk, min, is_some, length, slice_get, take, true};
 ghost use Rattle.as2_hub.specs.Places.{is_vacant, output_at, places, room_in};
 ghost use Rattle.as2_hub.specs.Happenings.{Closes};
 ghost use Rattle.as2_hub.specs.Inputs.{comes_if, goes_to, opens_if};
 ghost use Rattle.as2_exchange.specs.declared.answer.Answer.TheVariants.{Ticked};
 ghost use Rattle.as2_station.specs.Theorem.{said_as};
 ghost use Rattle.as2_records.specs.Calls.{Reads};
+ghost use Rattle.as2_records.specs.Rounds.{StaysOpen};
 ghost use Rattle.as2_station.specs.Due.{destination, next_behind};
-ghost use Rattle.as2_live.specs.Living.{AnswersPlaces, BeginsOn, EndsOn, LivesBy, Ticks, all_at_places, at_a_link};
+ghost use Rattle.as2_live.specs.Living.{AnswersPlaces, BeginsOn, EndsOn, LivesBy, LosesLive, PassesLive, Ticks, all_at_places, at_a_link};
 ghost use Rattle.as2_links.specs.Happenings.{Cuts, Hears, Sends};
 ghost use Rattle.as2_links.specs.Links.{awaits_answer, link_in, links_of, unsent_at};
 
@@ -16,7 +17,7 @@ use as2_exchange::{Bytes, Next, StoreFault};
 use as2_front::StationDesk;
 use as2_hub::Hub;
 use as2_links::{EndedLink, LinkTable};
-use as2_records::Records;
+use as2_records::{Records, Rounds};
 use as2_sending::{LinkFault, why_of};
 use as2_text::Moment;
 
@@ -89,16 +90,6 @@ impl<'a, K: Records> Live<'a, K> {
         self.hub.hear(at, piece)
     }
 
-    /// As many as this of the bytes that are to be written to it went, or all. Answers how many.
-    pub fn sent(&mut self, at: usize, most: usize) -> usize
-        ensures count { result ≡ min most (length (output_at (slice_get (places self.old.hub) at))) }
-        ensures desk { self.new.desk ≡ self.old.desk }
-        ensures lives { LivesBy K.shows self.old
-            (all_at_places (goes_to at (take result (output_at (slice_get (places self.old.hub) at))))) self.new }
-    {
-        self.hub.sent(at, most)
-    }
-
     /// Takes that this moment has come: what waited too long is given up. Answers how many documents were. A fault of the
     /// records may come in its place, and nothing is changed then.
     pub fn tick(&mut self, moment: Moment) -> Result<u64, StoreFault>
@@ -137,8 +128,8 @@ impl<'a, K: Records> Live<'a, K> {
         self.desk.destination(what)
     }
 
-    /// Begins a try of it at this moment, and opens a link for it at this place: it is committed before its request is handed out. NoPlace
-    /// where no link can be opened there, or one is open for it, and then nothing is done.
+    /// Begins a try of it at this moment, and opens a link for it at this place: it is in the records before its request is handed out.
+    /// NoPlace where no link can be opened there, or one is open for it, and then nothing is done.
     pub fn begin_try(&mut self, at: usize, what: Next, moment: Moment) -> TryBegun
         ensures begins { BeginsOn K.shows at what moment self.old self.new result }
     {
@@ -153,14 +144,6 @@ impl<'a, K: Records> Live<'a, K> {
             Ok(Err(reason)) => TryBegun::Refused(reason),
             Err(fault) => TryBegun::Failed(fault),
         }
-    }
-
-    /// As many as this of the bytes that are to be written to the link there went, or all.
-    pub fn link_sent(&mut self, at: usize, most: usize)
-        ensures lives { LivesBy K.shows self.old (at_a_link (is_some (link_in (slice_get (links_of self.old.links) at)))
-            (Sends at (take most (unsent_at (slice_get (links_of self.old.links) at))))) self.new }
-    {
-        self.links.sent(at, most);
     }
 
     /// Takes bytes that came over the link there. None is taken before its whole request was written, nor behind a whole answer.
@@ -190,5 +173,55 @@ impl<'a, K: Records> Live<'a, K> {
         let why = why_of(&got, fault);
         let said = self.desk.close(what, got, moment);
         Some(EndedTry { what, why, said })
+    }
+}
+
+/// Bytes go only while nothing is held back. A live station in a round is one over `K::Round`, which has none of these calls: whoever is
+/// generic over `K` can't send before the round is committed.
+impl<'a, K: Rounds> Live<'a, K> {
+    /// Begins a round of the records: what is written from now on is held back, to be committed at once. Where that fails it is given back.
+    pub fn hold(self) -> Result<Live<'a, K::Round>, Live<'a, K>>
+        ensures begun { IfOk result (λ round. PassesLive K.shows K.Round.shows self.entry round) }
+        ensures open { IfOk result (λ round. StaysOpen (K.shows self.entry.desk.station)
+            (K.Round.shows round.desk.station)) }
+        ensures back { IfErr result (λ live. PassesLive K.shows K.shows self.entry live) }
+    {
+        let Live { hub, desk, links } = self;
+        match desk.hold() {
+            Ok(desk) => Ok(Live { hub, desk, links }),
+            Err((desk, _)) => Err(Live { hub, desk, links }),
+        }
+    }
+
+    /// Commits what was written in a round, and ends it. Where that fails the round is lost, and its records are shut.
+    pub fn commit(round: Live<'a, K::Round>) -> Result<Live<'a, K>, Live<'a, K::Round>>
+        ensures committed { IfOk result (λ live. PassesLive K.Round.shows K.shows round.entry live) }
+        ensures still_open { IfOk result (λ live. StaysOpen (K.Round.shows round.entry.desk.station)
+            (K.shows live.desk.station)) }
+        ensures lost { IfErr result (λ left. LosesLive K.Round.shows round.entry left) }
+    {
+        let Live { hub, desk, links } = round;
+        match StationDesk::<K>::commit(desk) {
+            Ok(desk) => Ok(Live { hub, desk, links }),
+            Err(desk) => Err(Live { hub, desk, links }),
+        }
+    }
+
+    /// As many as this of the bytes that are to be written to it went, or all. Answers how many.
+    pub fn sent(&mut self, at: usize, most: usize) -> usize
+        ensures count { result ≡ min most (length (output_at (slice_get (places self.old.hub) at))) }
+        ensures desk { self.new.desk ≡ self.old.desk }
+        ensures lives { LivesBy K.shows self.old
+            (all_at_places (goes_to at (take result (output_at (slice_get (places self.old.hub) at))))) self.new }
+    {
+        self.hub.sent(at, most)
+    }
+
+    /// As many as this of the bytes that are to be written to the link there went, or all.
+    pub fn link_sent(&mut self, at: usize, most: usize)
+        ensures lives { LivesBy K.shows self.old (at_a_link (is_some (link_in (slice_get (links_of self.old.links) at)))
+            (Sends at (take most (unsent_at (slice_get (links_of self.old.links) at))))) self.new }
+    {
+        self.links.sent(at, most);
     }
 }

@@ -8,6 +8,7 @@ use as2_hub::{Bounds, Hub};
 use as2_links::LinkTable;
 use as2_lists::Lists;
 use as2_mic::Pieces;
+use as2_records::Rounds;
 use as2_sending::{LinkFault, Why};
 use as2_station::{Became, NewDocument, Station};
 use as2_text::{AsName, Moment};
@@ -116,5 +117,39 @@ fn sends(rt: HostRuntime) -> Result<(), Fail> {
     assert!(rt; ended.what == what && ended.why == Why::Status(503));
     assert!(rt; ended.said == Ok(Ok(Became::TryFailed)));
     assert!(rt; live.end_try(1, moment(21)?, LinkFault::Broken).is_none());
+    Ok(())
+}
+
+/// This live station, behind a round that answered what waits at these places; or none, where its records failed.
+fn behind_a_round<'a, K: Rounds + Drop>(
+    live: Live<'a, K>,
+    moment: Moment,
+    ready: &[usize],
+) -> Option<Live<'a, K>> {
+    let mut round = live.hold().ok()?;
+    round.answer(moment, ready);
+    Live::<K>::commit(round).ok()
+}
+
+/// Two are answered in one round, which is committed before a byte goes.
+#[test]
+fn answers_two_in_a_round(rt: HostRuntime) -> Result<(), Fail> {
+    let alloc = rt.alloc();
+    let agreements = Agreements::read(alloc, AGREEMENTS)?;
+    let station = Station::new(Lists::new(alloc, FIRST));
+    let desk = StationDesk::new(alloc, &agreements, moment(0)?, station);
+    let links = LinkTable::new(alloc, 1)?;
+    let mut live = Live::new(Hub::new(alloc, BOUNDS)?, desk, links);
+    assert!(rt; live.open(0) && live.open(1));
+    assert_eq!(rt; live.hear(0, POST), POST.len());
+    assert_eq!(rt; live.hear(1, GET), GET.len());
+    let mut live = behind_a_round(live, moment(1_700_000_000)?, &[1, 0]).ok_or("a round")?;
+    assert!(rt; live.hub().output(0).starts_with(b"HTTP/1.1 200 OK\r\n"));
+    assert!(rt; live.hub().output(1).starts_with(b"HTTP/1.1 405 "));
+    assert_eq!(rt; live.sent(1, 9), 9);
+    assert!(rt; live.hub().output(1).starts_with(b"405 "));
+    let (_, desk, _) = live.into_parts();
+    let listed = desk.into_station().listing(alloc, Filter::Inbox)?;
+    assert_eq!(rt; listed.lines().count(), 1);
     Ok(())
 }

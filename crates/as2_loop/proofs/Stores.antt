@@ -10,25 +10,34 @@ use Rattle.as2_desk.specs.Statuses.{status_done}
 use Rattle.as2_desk.specs.declared.agreed.AgreedText.{AgreedText}
 use Rattle.as2_desk.specs.declared.refusal.CommandFault.{CommandFault}
 use Rattle.as2_desk.specs.declared.refusal.CommandFault.TheVariants as fault
-use Rattle.as2_loop.specs.Running.{GoesOnWith, HasRun, IfShut, IsOfText, IsOver, KeepsBasis, LeadsFrom, LeadsOn, TellsCame, LeadsRecords}
+use Rattle.as2_loop.specs.Running.{GoesOnWith, HasRun, IfShut, IsOfText, IsOver, KeepsBasis, KeepsLeft, KeepsRecords, LeadsFrom, LeadsLeft, LeadsOn, LeadsRecords, TellsCame}
 use Rattle.as2_loop.specs.declared.operating.Held.{Held}
 use Rattle.as2_loop.specs.declared.operating.Spanned.{Spanned}
 use Rattle.as2_loop.specs.declared.operating.Spanned.TheVariants as spanned
 use Rattle.as2_loop.specs.declared.commands.Basis.{Basis}
+use Rattle.as2_records.specs.Rounds.{PassesOn}
 use Rattle.as2_records.specs.Standing.{Medium, Standing}
 
-module _ {O Opened InMemory : Type 0} (g : Stores O Opened InMemory) {M : Medium} (shows : Opened → Standing M) (path : List ℕ) (new : O) where
+module _ {O Opened InMemory : Type 0} (g : Stores O Opened InMemory) (path : List ℕ) (new : O) where
   -- records that a station led on are kept once they are closed
-  pub closed_behind : (basis : Basis) (records left : Opened) → LeadsRecords shows basis records left → (g.is_clean new → (shows left).IsClean)
-      → (g.is_clean new → (s : State) → (shows left).Rests s → (number : ℕ) → g.keeps new path number s)
-      → LeadsFrom g path basis.agreed.agreements (shows records).IsClean (shows records).Rests new
-  closed_behind basis records left turns clean kept = record {
-    clean = λ is. turns.clean (clean is);
+  kept_led : {M N P : Medium} {H L : Type 0} (opened : Standing M) (holds : H → Standing N) (shows : L → Standing P) (basis : Basis) (held : H) (left : L)
+      → PassesOn opened (holds held) → LeadsRecords holds shows basis held left → KeepsRecords g path (shows left) new
+      → LeadsFrom g path basis.agreed.agreements opened.IsClean opened.Rests new
+  kept_led opened holds shows basis held left passes turns keeps = record {
+    clean = λ is. passes.clean (turns.clean (keeps.clean is));
     led = λ is s rests.
-        let it = turns.led (clean is) s rests in
-        record { trace = it.trace; state = it.state; kept = kept is it.state it.kept; run = it.run; by_history = it.by_history };
+        let it = turns.led (keeps.clean is) s (passes.same (turns.clean (keeps.clean is)) s rests) in
+        record { trace = it.trace; state = it.state; kept = keeps.kept is it.state it.kept; run = it.run; by_history = it.by_history };
   }
 
+  -- .. or a round of them that was lost
+  pub closed_behind : {M N P : Medium} {H L : Type 0} (opened : Standing M) (holds : H → Standing N) (in_round : L → Standing P) (basis : Basis) (held : H)
+      (left : Result H L) → PassesOn opened (holds held) → LeadsLeft holds in_round basis held left → KeepsLeft g holds in_round path left new
+      → LeadsFrom g path basis.agreed.agreements opened.IsClean opened.Rests new
+  closed_behind opened holds in_round basis held (Ok left) passes turns keeps = kept_led opened holds holds basis held left passes turns keeps
+  closed_behind opened holds in_round basis held (Err left) passes turns keeps = kept_led opened holds in_round basis held left passes turns keeps
+
+module _ {O Opened InMemory : Type 0} (g : Stores O Opened InMemory) {M : Medium} (shows : Opened → Standing M) (path : List ℕ) (new : O) where
   -- a store that was opened anew is led on by whoever serves it
   pub opened_anew : {X E : Type 0} (at : List ℕ) → at ≡ path → (A : AgreedValues) (first : ℕ) (old : O) (records : Opened) (came : Result X E)
       → ((shows records).IsClean → g.is_clean old)

@@ -17,7 +17,7 @@ use Rattle.as2_exchange.specs.Run.{Run, Trace}
 use Rattle.as2_exchange.specs.State.{State}
 use Rattle.as2_host.specs.FileContents.{Content}
 use Rattle.as2_host.specs.declared.stores.OpenStores.{Ghosts as Stores}
-use Rattle.as2_live.specs.Living.{LivesOn}
+use Rattle.as2_live.specs.Living.{LivesOn, LivesOnAcross}
 use Rattle.as2_live.specs.declared.live.Live.{Live}
 use Rattle.as2_loop.specs.declared.commands.Basis.{Basis}
 use Rattle.as2_loop.specs.declared.operating.Held.{Held}
@@ -48,10 +48,34 @@ module _ {M : Medium} {R : Type 0} (shows : R → Standing M) where
   abbrev pub RunsOn : Basis → Live (Bounded R) → Live (Bounded R) → Type 0
   RunsOn basis old new = RunsBy basis old → LivesOn (λ (b : Bounded R). shows b.records) old new
 
+module _ {M N : Medium} {K L : Type 0} (shows : K → Standing M) (in_round : L → Standing N) where
+  -- what became of a live station in a turn is what happened to it; so is what became of a round of it that was lost
+  abbrev pub SettlesTo : Live K → Result (Live K) (Live L) → Type 0
+  SettlesTo old (Ok new) = LivesOn shows old new
+  SettlesTo old (Err round) = LivesOnAcross shows in_round old round
+
+  -- the same of a round that was begun
+  abbrev pub CommitsTo : Live L → Result (Live K) (Live L) → Type 0
+  CommitsTo round (Ok new) = LivesOnAcross in_round shows round new
+  CommitsTo round (Err left) = LivesOn in_round round left
+
+-- records, and records within a round of them
+module _ {M N : Medium} {R L : Type 0} (shows : R → Standing M) (in_round : L → Standing N) where
+  -- what became of a station that runs by these agreements, or of a round of it that was lost, is what happened to it
+  abbrev pub RunsTo : Basis → Live (Bounded R) → Result (Live (Bounded R)) (Live (Bounded L)) → Type 0
+  RunsTo basis old (Ok new) = RunsOn shows basis old new
+  RunsTo basis old (Err round) = RunsBy shows basis old → LivesOnAcross (λ (b : Bounded R). shows b.records) (λ (b : Bounded L). in_round b.records) old round
+
   -- some records stand for what a station that turned led others to
-  pub record LeadsRecords (basis : Basis) (old new : R) : Type 0 where
-    pub clean : (shows new).IsClean → (shows old).IsClean
-    pub led : (shows new).IsClean → (s : State) → (shows old).Rests s → LedTo basis.agreed.agreements s (shows new).Rests
+  pub record LeadsRecords (basis : Basis) (old : R) (new : L) : Type 0 where
+    pub clean : (in_round new).IsClean → (shows old).IsClean
+    pub led : (in_round new).IsClean → (s : State) → (shows old).Rests s → LedTo basis.agreed.agreements s (in_round new).Rests
+
+module _ {M N : Medium} {R L : Type 0} (shows : R → Standing M) (in_round : L → Standing N) where
+  -- the records that a station left, or a round of them that was lost, stand for what it led others to
+  abbrev pub LeadsLeft : Basis → R → Result R L → Type 0
+  LeadsLeft basis old (Ok new) = LeadsRecords shows shows basis old new
+  LeadsLeft basis old (Err round) = LeadsRecords shows in_round basis old round
 
 module _ {O Opened InMemory : Type 0} (g : Stores O Opened InMemory) (path : List ℕ) where
   -- Where the medium has returned what was written, it had done so before (Clean). What is kept under the path then is what a run of the
@@ -59,6 +83,11 @@ module _ {O Opened InMemory : Type 0} (g : Stores O Opened InMemory) (path : Lis
   pub record LeadsFrom (A : AgreedValues) (Clean : Type 0) (Stood : State → Type 0) (new : O) : Type 0 where
     pub clean : g.is_clean new → Clean
     pub led : g.is_clean new → (s : State) → Stood s → LedTo A s (λ t. (number : ℕ) → g.keeps new path number t)
+
+  -- what some records stand for is kept under it
+  pub record KeepsRecords {M : Medium} (shown : Standing M) (new : O) : Type 0 where
+    pub clean : g.is_clean new → shown.IsClean
+    pub kept : g.is_clean new → (s : State) → shown.Rests s → (number : ℕ) → g.keeps new path number s
 
   -- what was kept under it is kept
   pub record KeepsAll (old new : O) : Type 0 where
@@ -69,6 +98,12 @@ module _ {O Opened InMemory : Type 0} (g : Stores O Opened InMemory) (path : Lis
   -- and what was kept is kept.
   abbrev pub LeadsOn : AgreedValues → ℕ → O → O → Type 0
   LeadsOn A first old new = LeadsFrom A (g.is_clean old) (g.keeps old path first) new ⊎ KeepsAll old new
+
+module _ {O Opened InMemory : Type 0} (g : Stores O Opened InMemory) {M N : Medium} {R L : Type 0} (shows : R → Standing M) (in_round : L → Standing N) where
+  -- what a station left of its records, or of a round of them that was lost, is kept under that path
+  abbrev pub KeepsLeft : List ℕ → Result R L → O → Type 0
+  KeepsLeft path (Ok records) new = KeepsRecords g path (shows records) new
+  KeepsLeft path (Err round) new = KeepsRecords g path (in_round round) new
 
 -- what is left of a station is what ran
 abbrev pub KeepsBasis : Basis → Held → Type 0

@@ -10,7 +10,7 @@ pub(crate) const BYTES_OF_ONE: usize = 8_388_608;
 pub(crate) const BYTES_OF_ALL: usize = 268_435_456;
 
 /// Requests that are answered in one round.
-pub(crate) const REQUESTS: usize = 32;
+pub(crate) const REQUESTS: usize = 64;
 
 /// Bytes that are read at once.
 pub(crate) const PIECE: usize = 65_536;

@@ -5,7 +5,7 @@ ghost use Rattle.clap.specs.Walk.{texts};
 ghost use Rattle.as2_exchange.specs.State.{State};
 ghost use Rattle.as2_desk.specs.declared.refusal.CommandFault.TheVariants.{CannotListen};
 ghost use Rattle.as2_loop.specs.Running.{BeginsStation, GoesOnWith, HasRun, IsOfText, IsOver, KeepsAll, KeepsBasis, LeadsFrom};
-ghost use Rattle.as2_loop.specs.Running.{LeadsOn, TellsCame, LeadsRecords};
+ghost use Rattle.as2_loop.specs.Running.{KeepsLeft, LeadsLeft, LeadsOn, TellsCame};
 ghost use Rattle.as2_loop.specs.declared.operating.Spanned.TheVariants.{Elsewhere};
 
 use crate::bounds::Waits;
@@ -19,10 +19,11 @@ use as2_commands::{Operating, RunOptions, Task, options_in};
 use as2_desk::{AgreedText, CommandFault, Console, Host, Ran, agreed_text, refuse};
 use as2_exchange::StoreFault;
 use as2_front::Log;
-use as2_host::{OpenFault, OpenStores, ReadFiles};
+use as2_host::{OpenFault, OpenRounds, OpenStores, ReadFiles};
 use as2_http::Sink;
 use as2_hub::Hub;
-use as2_records::Records;
+use as2_live::Live;
+use as2_records::{Records, Rounds};
 use as2_sender::{Hosts, LinkWaits, Sender};
 use as2_shut::ShutRecords;
 use as2_text::Moment;
@@ -180,15 +181,23 @@ fn held_of(
     })
 }
 
-/// What is left of a station that turned: its records, and what it keeps.
+/// What is left of a station that turned: its records, or a round of them that was lost, and what it keeps.
 #[derive(Drop)]
-struct Turned<R> {
-    records: R,
+struct Turned<R: Rounds + Drop> {
+    records: Result<R, R::Round>,
     held: Held,
 }
 
+/// The connections of a station, and its records.
+fn parts_of<R: Records + Drop>(live: Live<'_, Bounded<R>>) -> (Hub, R)
+    ensures { result.1 ≡ live.entry.desk.station.records }
+{
+    let (hub, desk, _) = live.into_parts();
+    (hub, desk.into_station().into_records().into_records())
+}
+
 /// Turns over these records until the station has stopped, or they can't be reached.
-fn turn_over<R: Records + Drop, O: OpenStores>(
+fn turn_over<R: Rounds + Drop, O: OpenStores>(
     held: Held,
     moment: Moment,
     stores: &O,
@@ -196,19 +205,28 @@ fn turn_over<R: Records + Drop, O: OpenStores>(
 ) -> io::Result<Turned<R>>
     ensures basis { IfOk result (λ t. t.held.basis ≡ held.basis) }
     ensures over { IsOfText held.basis → IfOk result (λ t.
-        LeadsRecords R.shows held.basis records.records t.records) }
+        LeadsLeft R.shows R.Round.shows held.basis records.records t.records) }
 {
     let Held { basis, hub, shell } = held;
     let mut shell = shell;
     let links = shell.new_links()?;
     let live = answering(&basis, moment, records, hub, links);
-    let live = shell.run(&basis, stores, live)?;
-    let (hub, desk, _) = live.into_parts();
-    let records = desk.into_station().into_records().into_records();
-    Ok(Turned {
-        records,
-        held: Held { basis, hub, shell },
-    })
+    match shell.run(&basis, stores, live)? {
+        Ok(live) => {
+            let (hub, records) = parts_of(live);
+            Ok(Turned {
+                records: Ok(records),
+                held: Held { basis, hub, shell },
+            })
+        }
+        Err(round) => {
+            let (hub, records) = parts_of(round);
+            Ok(Turned {
+                records: Err(records),
+                held: Held { basis, hub, shell },
+            })
+        }
+    }
 }
 
 /// Answers for a while over a store that can't be opened.
@@ -225,8 +243,22 @@ fn wait_for_store<O: OpenStores>(
     }
 }
 
+/// Closes what a station left of its records, which are kept under that path from then on.
+fn close_left<O: OpenRounds>(
+    stores: &mut O,
+    path: &str,
+    left: Result<O::Holding, <O::Holding as Rounds>::Round>,
+)
+    ensures { KeepsLeft O.OpenStores O.Holding.shows O.Holding.Round.shows path.now left stores.new }
+{
+    match left {
+        Ok(records) => stores.close_holding(path, records),
+        Err(round) => stores.let_go(path, round),
+    }
+}
+
 /// Answers over a store that is open, until the station is stopped or the store shuts, and closes it.
-fn serve_open<O: OpenStores>(
+fn serve_open<O: OpenRounds>(
     held: Held,
     moment: Moment,
     stores: &mut O,
@@ -240,12 +272,12 @@ fn serve_open<O: OpenStores>(
     let Held { basis, hub, shell } = held;
     let mut shell = shell;
     shell.note_open(&basis);
-    let records = bounded(&basis, stores, records);
+    let records = bounded(&basis, stores, O::holding(records));
     let held = Held { basis, hub, shell };
     match turn_over(held, moment, stores, records) {
         Ok(turned) => {
             let Turned { records, held } = turned;
-            stores.close(held.basis.store.as_str(), records);
+            close_left(stores, held.basis.store.as_str(), records);
             Ok(held)
         }
         Err(_) => Err(CommandFault::Memory),
@@ -275,7 +307,7 @@ fn opened<O: OpenStores>(
 
 /// Begins a station over these records. CannotListen where it can't have what it begins with: the address can't be listened on, or the
 /// control socket can't be made. Memory where there is none to go on with, and then the store is as a crash leaves it.
-fn begin<O: OpenStores>(
+fn begin<O: OpenRounds>(
     held: io::Result<Held>,
     store: &str,
     moment: Moment,
@@ -298,7 +330,7 @@ fn begin<O: OpenStores>(
 }
 
 /// Goes on with a station whose store has shut. Where its file doesn't stand at its path any more, no other one is opened or made.
-fn go_on<O: OpenStores>(
+fn go_on<O: OpenRounds>(
     rt: &HostRuntime,
     run: RunOptions,
     held: Held,
@@ -331,7 +363,7 @@ fn told_of<E: Sink>(came: Result<Held, CommandFault>, errors: &mut E) -> Spanned
 /// Runs a station, where the words ask for one, until it is stopped, or its store shuts. `held` is what it kept as its store shut, where
 /// it is to go on. Else it is refused as CannotListen where the address can't be listened on or its control socket can't be made. It is
 /// refused as Memory where there is none to go on with, and then the store is as a crash leaves it.
-pub fn run_station<F: ReadFiles, O: OpenStores, N, R, W, H: Write, E: Sink>(
+pub fn run_station<F: ReadFiles, O: OpenRounds, N, R, W, H: Write, E: Sink>(
     rt: &HostRuntime,
     words: &[&str],
     held: Option<Held>,

@@ -6,7 +6,7 @@ use crate::bounds::{READS, Waits};
 use crate::peer::{Peer, Phase, Under};
 use as2_hub::Hub;
 use as2_live::Live;
-use as2_records::Records;
+use as2_records::{Records, Rounds};
 use std::io::{ErrorKind, Read, Write};
 use std::net::Shutdown;
 
@@ -83,7 +83,7 @@ pub(crate) fn read<K: Records>(
 }
 
 /// Writes once, where something is to be written and the system may take it. None where it may be written again.
-fn write_once<K: Records>(
+fn write_once<K: Rounds>(
     live: &mut Live<'_, K>,
     at: usize,
     peer: &mut Peer,
@@ -109,7 +109,7 @@ fn write_once<K: Records>(
 }
 
 /// Writes what is to be written, as far as the system takes it.
-pub(crate) fn write<K: Records>(
+pub(crate) fn write<K: Rounds>(
     live: &mut Live<'_, K>,
     at: usize,
     peer: &mut Peer,

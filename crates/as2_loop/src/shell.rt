@@ -1,7 +1,7 @@
 //! The loop.
 ghost use Rattle.std.specs.Prelude.{◌≡◌, IfOk};
 ghost use Rattle.as2_live.specs.Living.{LivesOn};
-ghost use Rattle.as2_loop.specs.Running.{RunsOn};
+ghost use Rattle.as2_loop.specs.Running.{CommitsTo, RunsOn, RunsTo, SettlesTo};
 
 use crate::bounds::{
     ACCEPTS, BYTES_OF_ALL, BYTES_OF_ONE, CONNECTIONS, CROWDED_IDLE, LOOK, PIECE, READS, REQUESTS,
@@ -22,7 +22,7 @@ use as2_host::OpenStores;
 use as2_hub::{Bounds, Hub};
 use as2_links::LinkTable;
 use as2_live::Live;
-use as2_records::Records;
+use as2_records::{Records, Rounds};
 use as2_sender::{Occasion, Sender, link_of};
 use mio::event::Event;
 use mio::net::{TcpListener, TcpStream};
@@ -96,6 +96,15 @@ fn note_tick(basis: &Basis, said: Result<u64, StoreFault>) {
     }
 }
 
+/// Notes that a round was lost in which so many requests were answered.
+fn note_lost(basis: &Basis, count: usize) {
+    if let Ok(line) =
+        format!(in basis.alloc; "store lost - a round of {count} answers wasn't committed")
+    {
+        basis.log.add(line.as_str().as_bytes());
+    }
+}
+
 /// Notes what the system says of a connection.
 fn mark(peer: &mut Peer, event: &Event) {
     let is_broken = event.is_error();
@@ -162,29 +171,32 @@ impl Shell {
         })
     }
 
-    /// Turns until the station has stopped, or its records can't be reached, and gives it back.
-    pub(crate) fn run<'b, R: Records + Drop, O: OpenStores>(
+    /// Turns until the station has stopped, or its records can't be reached, and gives it back; or the round of it that was lost.
+    pub(crate) fn run<'b, R: Rounds + Drop, O: OpenStores>(
         &mut self,
         basis: &'b Basis,
         stores: &O,
         live: Live<'b, Bounded<R>>,
-    ) -> io::Result<Live<'b, Bounded<R>>>
-        ensures { IfOk result (RunsOn R.shows basis.now live.entry) }
+    ) -> io::Result<Result<Live<'b, Bounded<R>>, Live<'b, Bounded<R::Round>>>>
+        ensures { IfOk result (RunsTo R.shows R.Round.shows basis.now live.entry) }
     {
         self.is_shut = false;
         let mut current = live;
         let mut events = Events::with_capacity(self.rt.alloc(), 1_024)?;
         for _ in 0..u64::MAX {
             self.wait(&mut events)?;
-            self.turn(&mut current, &events)?;
-            current = self.attend(basis, stores, current)?;
-            self.go_on(basis, &mut current)?;
+            let turned = match self.turn(basis, current, &events)? {
+                Ok(turned) => turned,
+                Err(round) => return Ok(Err(round)),
+            };
+            current = self.attend(basis, stores, turned)?;
+            self.look(basis, &mut current)?;
             self.tell(basis);
             if self.is_shut || self.has_stopped() {
                 break;
             }
         }
-        Ok(current)
+        Ok(Ok(current))
     }
 
     /// The records couldn't be reached.
@@ -237,21 +249,115 @@ impl Shell {
         self.watch.read(&self.rt)
     }
 
-    /// One turn: what came is read, a round is answered, and what is to be written is.
-    fn turn<K: Records>(
+    /// One turn: what came is read, what waits is answered, and what is due begins. All of that is committed, and only then is a reply
+    /// written. Or it couldn't be committed, and that round is given back.
+    fn turn<'b, K: Rounds + Drop>(
+        &mut self,
+        basis: &'b Basis,
+        live: Live<'b, K>,
+        events: &Events<Global>,
+    ) -> io::Result<Result<Live<'b, K>, Live<'b, K::Round>>>
+        ensures { IfOk result (SettlesTo K.shows K.Round.shows live.entry) }
+    {
+        let mut live = live;
+        let places = self.take_in(&mut live, events)?;
+        let ready = ready_among(self.rt.alloc(), live.hub(), &places)?;
+        match self.settle(basis, live, &ready) {
+            Ok(settled) => {
+                let mut settled = settled;
+                self.go_on_all(&mut settled, &places)?;
+                Ok(Ok(settled))
+            }
+            Err(round) => Ok(Err(round)),
+        }
+    }
+
+    /// Takes what came: who waits is accepted, and connections and links are read. The connections that are looked at in this turn.
+    fn take_in<K: Rounds>(
         &mut self,
         live: &mut Live<'_, K>,
         events: &Events<Global>,
-    ) -> io::Result<()>
+    ) -> io::Result<Vec<usize>>
         ensures lives { LivesOn K.shows live.old live.new }
     {
         self.mark_all(events)?;
         self.accept_all(live)?;
         let places = self.turns.begin();
         self.read_all(live, &places);
-        let ready = ready_among(self.rt.alloc(), live.hub(), &places)?;
-        self.answer(live, &ready);
-        self.go_on_all(live, &places)
+        self.sender.hear(live, self.watch.now);
+        Ok(places)
+    }
+
+    /// Answers these places, and sees to the tries. Where that may be more than one thing to be committed, it is held back and committed
+    /// at once; where it can't be held back, each is committed alone.
+    fn settle<'b, K: Rounds + Drop>(
+        &mut self,
+        basis: &'b Basis,
+        live: Live<'b, K>,
+        ready: &[usize],
+    ) -> Result<Live<'b, K>, Live<'b, K::Round>>
+        ensures { SettlesTo K.shows K.Round.shows live.entry result }
+    {
+        if ready.len() < 2 && !self.sender.has_due() {
+            return Ok(self.work(basis, live, ready));
+        }
+        match live.hold() {
+            Ok(round) => self.commit::<K>(basis, round, ready),
+            Err(live) => Ok(self.work(basis, live, ready)),
+        }
+    }
+
+    /// Answers these places in a round, sees to the tries, and commits it. Where that fails nothing of it goes out.
+    fn commit<'b, K: Rounds + Drop>(
+        &mut self,
+        basis: &'b Basis,
+        round: Live<'b, K::Round>,
+        ready: &[usize],
+    ) -> Result<Live<'b, K>, Live<'b, K::Round>>
+        ensures { CommitsTo K.shows K.Round.shows round.entry result }
+    {
+        self.tell(basis);
+        let round = self.work(basis, round, ready);
+        match Live::<K>::commit(round) {
+            Ok(live) => Ok(live),
+            Err(round) => Err(self.lose(basis, round, ready.len())),
+        }
+    }
+
+    /// Answers these places, ends the tries whose links are over, and begins what is due.
+    fn work<'b, K: Records>(
+        &mut self,
+        basis: &'b Basis,
+        live: Live<'b, K>,
+        ready: &[usize],
+    ) -> Live<'b, K>
+        ensures { LivesOn K.shows live.entry result }
+    {
+        let mut live = live;
+        self.answer(&mut live, ready);
+        self.send(basis, &mut live);
+        live
+    }
+
+    /// A round is lost, in which so many requests were answered. Its lines are thrown away, each connection is closed with no byte more,
+    /// and the records are shut.
+    fn lose<'b, K: Records>(
+        &mut self,
+        basis: &'b Basis,
+        round: Live<'b, K>,
+        count: usize,
+    ) -> Live<'b, K>
+        ensures { LivesOn K.shows round.entry result }
+    {
+        let _ = basis.log.take(basis.alloc);
+        note_lost(basis, count);
+        let mut round = round;
+        for at in 0..CONNECTIONS {
+            self.close(&mut round, at);
+        }
+        self.shut(basis, false);
+        self.tell(basis);
+        round
     }
 
     /// Reads what came at these places.
@@ -274,7 +380,7 @@ impl Shell {
     }
 
     /// Goes on at these places.
-    fn go_on_all<K: Records>(&mut self, live: &mut Live<'_, K>, places: &[usize]) -> io::Result<()>
+    fn go_on_all<K: Rounds>(&mut self, live: &mut Live<'_, K>, places: &[usize]) -> io::Result<()>
         ensures lives { LivesOn K.shows live.old live.new }
     {
         for at in places {
@@ -372,7 +478,7 @@ impl Shell {
     }
 
     /// Writes what is to be written at a place, and sees to what becomes of it.
-    fn go_on_at<K: Records>(&mut self, live: &mut Live<'_, K>, at: usize) -> io::Result<()>
+    fn go_on_at<K: Rounds>(&mut self, live: &mut Live<'_, K>, at: usize) -> io::Result<()>
         ensures lives { LivesOn K.shows live.old live.new }
     {
         let now = self.watch.now;
@@ -465,15 +571,7 @@ impl Shell {
         self.sender.is_idle() && self.peers.iter().all(|peer| peer.is_none())
     }
 
-    /// Sends what is due, and then looks at what is looked at once in a while.
-    fn go_on<K: Records>(&mut self, basis: &Basis, live: &mut Live<'_, K>) -> io::Result<()>
-        ensures lives { LivesOn K.shows live.old live.new }
-    {
-        self.send(basis, live);
-        self.look(basis, live)
-    }
-
-    /// Goes on with the links, and begins what is due.
+    /// Ends the tries whose links are over, and begins what is due.
     fn send<K: Records>(&mut self, basis: &Basis, live: &mut Live<'_, K>)
         ensures lives { LivesOn K.shows live.old live.new }
     {
@@ -484,19 +582,6 @@ impl Shell {
             log: &basis.log,
         };
         self.sender.turn(live, &occasion);
-    }
-
-    /// Looks at the links, and at all that is due anew.
-    fn look_at_links<K: Records>(&mut self, basis: &Basis, live: &mut Live<'_, K>)
-        ensures lives { LivesOn K.shows live.old live.new }
-    {
-        let occasion = Occasion {
-            moment: self.moments.now(),
-            now: self.watch.now,
-            registry: self.poll.registry(),
-            log: &basis.log,
-        };
-        self.sender.look(live, &occasion);
     }
 
     /// Writes the lines of what happened.
@@ -521,7 +606,7 @@ impl Shell {
         self.mark_crowd(basis, live.hub(), now);
         self.give_room(basis, live);
         self.look_at_all(basis, live)?;
-        self.look_at_links(basis, live);
+        self.sender.look(now);
         let said = live.tick(self.moments.now());
         note_tick(basis, said);
         self.mind(basis, said.is_err());

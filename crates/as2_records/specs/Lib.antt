@@ -12,3 +12,4 @@ pub mod Progressing
 pub mod Resending
 pub mod Requeuing
 pub mod Settling
+pub mod Rounds

@@ -12,6 +12,7 @@ mod discrepancy;
 mod numbers;
 mod progress;
 mod records;
+mod rounds;
 mod summaries;
 
 pub use counts::Counts;
@@ -19,6 +20,7 @@ pub use discrepancy::Discrepancy;
 pub use numbers::NextNumbers;
 pub use progress::{Progress, ReceiptProgress};
 pub use records::Records;
+pub use rounds::Rounds;
 pub use summaries::{InRow, OutRow};
 
 /// An entry is the one that its summary and its content, and a document's evidence, are.

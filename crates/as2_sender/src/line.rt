@@ -54,6 +54,8 @@ pub(crate) struct Line {
     may_write: bool,
     /// It is to be gone on with.
     pub is_marked: bool,
+    /// It is over, and its try is to end: a whole answer came, or none can come, and then that is why.
+    pub over: Option<LinkFault>,
     began: u64,
     moved: u64,
 }
@@ -101,6 +103,7 @@ impl Line {
             may_read: false,
             may_write: false,
             is_marked: false,
+            over: None,
             began: now,
             moved: now,
         }
@@ -193,8 +196,15 @@ impl Line {
         now.saturating_sub(self.began)
     }
 
+    /// Looks whether its time is over.
+    pub(crate) fn look(&mut self, waits: LinkWaits, now: u64) {
+        if self.over.is_none() {
+            self.over = self.fault_by(waits, now);
+        }
+    }
+
     /// Why it is over by that time, where it is.
-    pub(crate) fn fault_by(&self, waits: LinkWaits, now: u64) -> Option<LinkFault> {
+    fn fault_by(&self, waits: LinkWaits, now: u64) -> Option<LinkFault> {
         let stood = self.stood(now);
         if self.phase == Phase::Connecting && stood >= CONNECT.min(waits.wait) {
             return Some(LinkFault::NoConnection);

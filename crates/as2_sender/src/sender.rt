@@ -16,7 +16,7 @@ use as2_exchange::Next;
 use as2_front::Log;
 use as2_links::LinkTable;
 use as2_live::{Live, TryBegun};
-use as2_records::Records;
+use as2_records::{Records, Rounds};
 use as2_sending::LinkFault;
 use as2_text::{Memory, Moment};
 use mio::event::Event;
@@ -123,7 +123,16 @@ impl Sender {
             Some(line) => line.is_marked,
             None => false,
         });
-        is_marked || self.may_begin()
+        is_marked || self.has_due()
+    }
+
+    /// A turn may have something recorded: a link is over, or a try may begin.
+    pub fn has_due(&self) -> bool {
+        let is_over = self.lines.iter().any(|line| match line {
+            Some(line) => line.over.is_some(),
+            None => false,
+        });
+        is_over || self.may_begin()
     }
 
     /// A try may begin, where something is due.
@@ -138,35 +147,27 @@ impl Sender {
         }
     }
 
-    /// One turn: each link is gone on with of which the system says something, and what is due begins.
-    pub fn turn<K: Records>(&mut self, live: &mut Live<'_, K>, occasion: &Occasion<'_>)
-        ensures lives { LivesOn K.shows live.old live.new }
-    {
-        self.go_on_all(live, occasion);
-        self.begin_due(live, occasion);
-    }
-
-    /// Goes on with each link.
-    fn go_on_all<K: Records>(&mut self, live: &mut Live<'_, K>, occasion: &Occasion<'_>)
+    /// Goes on with each link of which the system says something. One that is over is marked as such, and `turn` ends it.
+    pub fn hear<K: Rounds>(&mut self, live: &mut Live<'_, K>, now: u64)
         ensures lives { LivesOn K.shows live.old live.new }
     {
         for at in 0..LINKS {
-            self.go_on_at(live, at, occasion);
+            self.hear_at(live, at, now);
         }
     }
 
     /// Goes on with the link at a place.
-    fn go_on_at<K: Records>(&mut self, live: &mut Live<'_, K>, at: usize, occasion: &Occasion<'_>)
+    fn hear_at<K: Rounds>(&mut self, live: &mut Live<'_, K>, at: usize, now: u64)
         ensures lives { LivesOn K.shows live.old live.new }
     {
         for _ in 0..STEPS {
-            if !self.step(live, at, occasion) {
+            if !self.step(live, at, now) {
                 return;
             }
         }
     }
 
-    /// What the socket at a place does: one call of it at most.
+    /// What the socket at a place does: one call of it at most. None of a link that is over.
     fn try_line(&mut self, links: &LinkTable, at: usize, now: u64) -> Did {
         let Some(Some(line)) = self.lines.get_mut(at) else {
             return Did::Nothing;
@@ -175,7 +176,8 @@ impl Sender {
             line.is_marked = false;
             return Did::Nothing;
         };
-        if !line.is_marked {
+        if !line.is_marked || line.over.is_some() {
+            line.is_marked = false;
             return Did::Nothing;
         }
         let did = line.go_on(link, &mut self.buffer, now);
@@ -184,15 +186,10 @@ impl Sender {
     }
 
     /// One step at a place. False: there is nothing more to be done now.
-    fn step<K: Records>(
-        &mut self,
-        live: &mut Live<'_, K>,
-        at: usize,
-        occasion: &Occasion<'_>,
-    ) -> bool
+    fn step<K: Rounds>(&mut self, live: &mut Live<'_, K>, at: usize, now: u64) -> bool
         ensures lives { LivesOn K.shows live.old live.new }
     {
-        match self.try_line(live.links(), at, occasion.now) {
+        match self.try_line(live.links(), at, now) {
             Did::Nothing => false,
             Did::Wrote(count) => {
                 live.link_sent(at, count);
@@ -208,9 +205,46 @@ impl Sender {
                 true
             }
             Did::Over(fault) => {
-                self.finish(live, at, fault, occasion);
+                self.mark_over(at, fault);
                 false
             }
+        }
+    }
+
+    /// The link at a place is over, and why, where it brought no whole answer.
+    fn mark_over(&mut self, at: usize, fault: LinkFault) {
+        if let Some(Some(line)) = self.lines.get_mut(at) {
+            line.over = Some(fault);
+            line.is_marked = false;
+        }
+    }
+
+    /// One turn: the tries end whose links are over, and what is due begins. No byte goes over a link in it.
+    pub fn turn<K: Records>(&mut self, live: &mut Live<'_, K>, occasion: &Occasion<'_>)
+        ensures lives { LivesOn K.shows live.old live.new }
+    {
+        self.end_all(live, occasion);
+        self.begin_due(live, occasion);
+    }
+
+    /// Ends each try whose link is over.
+    fn end_all<K: Records>(&mut self, live: &mut Live<'_, K>, occasion: &Occasion<'_>)
+        ensures lives { LivesOn K.shows live.old live.new }
+    {
+        for at in 0..LINKS {
+            self.end_at(live, at, occasion);
+        }
+    }
+
+    /// The same at one place.
+    fn end_at<K: Records>(&mut self, live: &mut Live<'_, K>, at: usize, occasion: &Occasion<'_>)
+        ensures lives { LivesOn K.shows live.old live.new }
+    {
+        let Some(Some(line)) = self.lines.get(at) else {
+            return;
+        };
+        if let Some(fault) = line.over {
+            self.finish(live, at, fault, occasion);
         }
     }
 
@@ -511,27 +545,15 @@ impl Sender {
         }
     }
 
-    /// Once in a while: links whose time is over are closed, and all that is due is looked at anew.
-    pub fn look<K: Records>(&mut self, live: &mut Live<'_, K>, occasion: &Occasion<'_>)
-        ensures lives { LivesOn K.shows live.old live.new }
-    {
-        self.passed.sweep(occasion.now);
-        self.sweep.begin_anew(occasion.now);
-        for at in 0..LINKS {
-            self.look_at(live, at, occasion);
+    /// Once in a while: links whose time is over are marked as over, and all that is due is looked at anew.
+    pub fn look(&mut self, now: u64) {
+        self.passed.sweep(now);
+        self.sweep.begin_anew(now);
+        let waits = self.waits;
+        for line in self.lines.iter_mut() {
+            if let Some(line) = line {
+                line.look(waits, now);
+            }
         }
-    }
-
-    /// Closes the link at a place where its time is over.
-    fn look_at<K: Records>(&mut self, live: &mut Live<'_, K>, at: usize, occasion: &Occasion<'_>)
-        ensures lives { LivesOn K.shows live.old live.new }
-    {
-        let Some(Some(line)) = self.lines.get(at) else {
-            return;
-        };
-        let Some(fault) = line.fault_by(self.waits, occasion.now) else {
-            return;
-        };
-        self.finish(live, at, fault, occasion);
     }
 }

@@ -2,6 +2,7 @@
 //! shut answers over them until the store is open again.
 #![tactic(auto)]
 
+mod rounds;
 mod shut;
 
 pub use shut::ShutRecords;

@@ -55,3 +55,11 @@ pub fn close<D: Disk + Drop>(conn: Connection<FileStore<D>>) -> Result<Files<D>,
         Err((error, store)) => Err((error, store.close())),
     }
 }
+
+/// Gives the two files of a store back, as they are. A crash leaves of them only what it could have left of the store.
+pub fn let_go<D: Disk + Drop>(conn: Connection<FileStore<D>>) -> Files<D>
+    ensures left { AreLeftBy D.Disk conn result }
+    ensures unclosed { AreClean D.Disk result.log result.db → HasCleanDisk (file_state conn) }
+{
+    conn.into_store().close()
+}

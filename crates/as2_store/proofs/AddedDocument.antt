@@ -25,7 +25,7 @@ use Rattle.as2_store.specs.Adding.{AppendsPieces, NotesWaiting, noted_rows, IsEn
 use Rattle.as2_records.specs.Adding.{with_document, added_document}
 use Rattle.as2_store.proofs.Statements.{out_put_text}
 use Rattle.as2_store.proofs.Texts.{out_put_terms, out_put_is, out_put_plain}
-use Rattle.as2_store.proofs.Committing.{FollowsEach}
+use Rattle.as2_store.proofs.Marking.{Follows}
 use Rattle.as2_store.proofs.NumberedRows.{puts_between}
 use Rattle.as2_store.proofs.WaitingRows.{cast_optional}
 use Rattle.as2_store.proofs.WaitingAmong.{put_among}
@@ -136,23 +136,22 @@ stands_submitted way a d e s x it is small mid four =
     }
 
 -- a document is added under the next number, and under no other
-pub adds_document : {S : Type 0} (g : Ghosts S) (old : Held S) (mid last : Connected) (x : OutEntry) → x.number < end_of_numbers
+pub adds_document : (begun mid last : Connected) (x : OutEntry) → x.number < end_of_numbers
     → (HasCleanDisk last → HasCleanDisk mid)
-    → (HasCleanDisk mid → IsTrue (state g old).is_open)
-    → (HasCleanDisk mid → (way : Way) (s : State) → Stands (VersionThree way) (state g old).now s
+    → (HasCleanDisk mid → IsTrue begun.is_open)
+    → (HasCleanDisk mid → (way : Way) (s : State) → Stands (VersionThree way) begun.now s
     → IsEntered way mid.now s x.number s.next_out (with_document s x))
     → (HasCleanDisk last → (way : Way) (n m : ℕ) → HasCounters way mid.now n m → (x.number ≡ m)
     × ChangesTable mid last (store_schema way) meta_tree (meta_row current_number n (x.number + 1) ∷ [])) → HasCleanDisk last
-    → FollowsEach g old last (added_document x)
-adds_document g old mid last x small was opened put raised clean = record {
+    → Follows begun last (added_document x)
+adds_document begun mid last x small was opened put raised clean = record {
   was_open = opened (was clean);
-  reaches = λ s r.
-      let here = r.stands (opened (was clean)) in
+  reaches = λ s here.
       let way = here.way in
       let one = put (was clean) way s here.stands in
       let two = raised clean way s.next_in s.next_out one.counters in (
         with_document s x,
         ap (λ t. cond t (Some (with_document s x)) None) (itself x.number s.next_out two.0),
-        record { way = way; stands = stands_submitted way (state g old) mid last s x here.stands two.0 small one two.1 },
+        record { way = way; stands = stands_submitted way begun mid last s x here.stands two.0 small one two.1 },
       );
 }

@@ -24,7 +24,7 @@ use Rattle.as2_store.specs.Tables.{Way, VersionThree, current_number, store_sche
 use Rattle.as2_store.specs.Stands.{IsWhole, Stands, HasCounters, inbox_pieces, meta_row}
 use Rattle.as2_store.specs.Adding.{AppendsPieces, NotesWaiting, noted_rows, IsEntered}
 use Rattle.as2_records.specs.Adding.{with_received, state_with}
-use Rattle.as2_store.proofs.Committing.{FollowsEach}
+use Rattle.as2_store.proofs.Marking.{Follows}
 use Rattle.as2_store.proofs.NumberedRows.{puts_between}
 use Rattle.as2_store.proofs.WaitingRows.{noted}
 use Rattle.as2_store.proofs.Untouched.{AtMeta, AtInbox, AtInboxPiece, AtOutbox, AtOutboxPiece, AtEvidence, AtWaiting, AtOrigin, AtResent, keeping, entries_kept, still_emptied, still_origin, still_resent}
@@ -128,22 +128,21 @@ pub itself : (m n : ℕ) → m ≡ n → (m == n) ≡ true
 itself m n same = grind (arith, nat_tests, same)
 
 -- an entry is added under the next number, and under no other
-pub adds : {S : Type 0} (g : Ghosts S) (old : Held S) (mid last : Connected) (x : InEntry) → x.number < end_of_numbers → (HasCleanDisk last → HasCleanDisk mid)
-    → (HasCleanDisk mid → IsTrue (state g old).is_open)
-    → (HasCleanDisk mid → (way : Way) (s : State) → Stands (VersionThree way) (state g old).now s
+pub adds : (begun mid last : Connected) (x : InEntry) → x.number < end_of_numbers → (HasCleanDisk last → HasCleanDisk mid)
+    → (HasCleanDisk mid → IsTrue begun.is_open)
+    → (HasCleanDisk mid → (way : Way) (s : State) → Stands (VersionThree way) begun.now s
     → IsEntered way mid.now s x.number s.next_in (with_received s x))
     → (HasCleanDisk last → (way : Way) (n m : ℕ) → HasCounters way mid.now n m → (x.number ≡ n)
     × ChangesTable mid last (store_schema way) meta_tree (meta_row current_number (x.number + 1) m ∷ [])) → HasCleanDisk last
-    → FollowsEach g old last (state_with x)
-adds g old mid last x small was opened put raised clean = record {
+    → Follows begun last (state_with x)
+adds begun mid last x small was opened put raised clean = record {
   was_open = opened (was clean);
-  reaches = λ s r.
-      let here = r.stands (opened (was clean)) in
+  reaches = λ s here.
       let way = here.way in
       let one = put (was clean) way s here.stands in
       let two = raised clean way s.next_in s.next_out one.counters in (
         with_received s x,
         ap (λ t. cond t (Some (with_received s x)) None) (itself x.number s.next_in two.0),
-        record { way = way; stands = stands_received way (state g old) mid last s x here.stands two.0 small one two.1 },
+        record { way = way; stands = stands_received way begun mid last s x here.stands two.0 small one two.1 },
       );
 }

@@ -26,7 +26,7 @@ use Rattle.as2_records.specs.declared.summaries.OutRow.{OutRow}
 use Rattle.as2_rows.specs.Waiting.{WaitingRow, in_kind, out_kind, to_send_receipt, to_end, to_hear, to_send, waiting_in, waiting_out}
 use Rattle.as2_store.specs.declared.discrepancies.PlacedWaitingRow.{PlacedWaitingRow}
 use Rattle.as2_store.specs.Discrepancies.{Compares, IsFirst, IsFirstOf, all_wanted, documents_wanted, is_kind, owes_receipt, is_waiting, last, not_below, number_told, receipts_wanted, rows_of, row_shown, wait_row, wait_told}
-use Rattle.as2_store.specs.Stands.{Holds, Rests, all_waiting, documents_waiting, waiting_row}
+use Rattle.as2_store.specs.Stands.{Holds, all_waiting, documents_waiting, waiting_row, HoldsIfOpen}
 use Rattle.as2_store.specs.Tables.{waiting_tree}
 use Rattle.as2_store.proofs.CountedRows.{each_shown}
 use Rattle.as2_store.proofs.OwedTables.{places_in_order}
@@ -39,10 +39,10 @@ use Rattle.as2_store.proofs.Texts.{waiting_columns, waiting_names, waiting_read_
 abbrev row_of : WaitingRow → PlacedWaitingRow
 row_of w = wait_row w.kind w.number w.due
 
-pub finds_waiting : (old new : Connected) (rows : List Row) → Shown waiting_read_text [] old new rows → (s : State) → Rests old s
+pub finds_waiting : (old new : Connected) (rows : List Row) → Shown waiting_read_text [] old new rows → (s : State) → HoldsIfOpen old s
     → rows ≡ map row_shown (rows_of (all_waiting s))
 finds_waiting old new rows h s r =
-    let here = r.stands (shown_open waiting_read_text [] old new rows h) in
+    let here = r (shown_open waiting_read_text [] old new rows h) in
     let way = here.way in
     let it = here.stands in
     reads_rows way waiting_read_text (waiting_read_plain way) (waiting_read_unlisted way) waiting_tree [] waiting_columns waiting_names (waiting_read_is way) []

@@ -9,7 +9,7 @@ use Rattle.as2_exchange.specs.declared.inbox.InEntry.{InEntry}
 use Rattle.as2_exchange.specs.declared.outbox.OutEntry.{OutEntry}
 use Rattle.as2_rows.specs.Rows.{in_row, out_row}
 use Rattle.as2_store.specs.Counting.{detail_row, details_of, receipt_stage_row, receipt_stages_of}
-use Rattle.as2_store.specs.Stands.{Rests}
+use Rattle.as2_store.specs.Stands.{HoldsIfOpen}
 use Rattle.as2_store.specs.Tables.{inbox_tree, outbox_tree}
 use Rattle.as2_store.proofs.NumberedRows.{entries_rise}
 use Rattle.as2_store.proofs.QueriedRows.{reads_rows}
@@ -21,10 +21,10 @@ pub each_shown : {X Y : Type 0} (column : X → Y) (row : Y → Row) (xs : List 
 each_shown column row [] = refl
 each_shown column row (x ∷ xs) = ap (λ l. row (column x) ∷ l) (each_shown column row xs)
 
-pub finds_details : (old new : Connected) (rows : List Row) → Shown detail_text [] old new rows → (s : State) → Rests old s
+pub finds_details : (old new : Connected) (rows : List Row) → Shown detail_text [] old new rows → (s : State) → HoldsIfOpen old s
     → rows ≡ map detail_row (details_of s)
 finds_details old new rows h s r =
-    let here = r.stands (shown_open detail_text [] old new rows h) in
+    let here = r (shown_open detail_text [] old new rows h) in
     let way = here.way in
     let it = here.stands in
     reads_rows way detail_text (detail_plain way) (detail_unlisted way) outbox_tree [] detail_column_terms (codes "detail" ∷ [])
@@ -32,10 +32,10 @@ finds_details old new rows h s r =
     (entries_rise out_row (λ (d : OutEntry). d.number) (λ _. refl) s.next_out s.outbox it.documents.1)
     ∙ each_shown (λ (d : OutEntry). d.detail) detail_row s.outbox
 
-pub finds_receipt_stages : (old new : Connected) (rows : List Row) → Shown receipt_stage_text [] old new rows → (s : State) → Rests old s
+pub finds_receipt_stages : (old new : Connected) (rows : List Row) → Shown receipt_stage_text [] old new rows → (s : State) → HoldsIfOpen old s
     → rows ≡ map receipt_stage_row (receipt_stages_of s)
 finds_receipt_stages old new rows h s r =
-    let here = r.stands (shown_open receipt_stage_text [] old new rows h) in
+    let here = r (shown_open receipt_stage_text [] old new rows h) in
     let way = here.way in
     let it = here.stands in
     reads_rows way receipt_stage_text (receipt_stage_plain way) (receipt_stage_unlisted way) (inbox_tree way) [] receipt_stage_column_terms

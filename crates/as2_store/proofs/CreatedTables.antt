@@ -184,7 +184,7 @@ first_commits g old last first it db is = record {
 }
 
 pub creates : {S : Type 0} (g : Ghosts S) (old : Held S) (last : Connected) (end : Held S) (first : ℕ)
-    → IsInside (state g (record old { in_transaction = true })) last → Survives last (state g end) (λ db. db ≡ last.now.trees)
+    → IsInside 0 (state g (record old { in_transaction = true })) last → Survives last (state g end) (λ db. db ≡ last.now.trees)
     → (HasCleanDisk last → MakesFirst g old last first) → (HasCleanDisk (state g end) → Shows last (state g end) last.now last.now false)
     → (settled : (db : Trees) → IsTrue (state g end).is_open → (state g end).may_leave db → db ≡ (state g end).committed.trees)
     → Creates first (state g old) (state g end)

@@ -31,7 +31,7 @@ use Rattle.as2_records.proofs.Behind.{those_behind}
 use Rattle.as2_rows.specs.Rows.{whole, whole_or_null}
 use Rattle.as2_rows.specs.Waiting.{WaitingRow, waiting_in, to_send, to_send_receipt, to_hear, to_end}
 use Rattle.as2_store.specs.Tables.{Layout, store_schema, waiting_tree}
-use Rattle.as2_store.specs.Stands.{Stands, Rests, place, waiting_row, documents_waiting, all_waiting}
+use Rattle.as2_store.specs.Stands.{Stands, place, waiting_row, documents_waiting, all_waiting, HoldsIfOpen}
 use Rattle.as2_store.specs.Due.{due_numbers, least_behind, number_rows}
 use Rattle.as2_store.proofs.Statements.{any_due_text, least_due_text}
 use Rattle.as2_store.proofs.Texts.{due_columns, any_due_terms, any_due_is, any_due_plain, any_due_unlisted, least_due_terms, least_due_is, least_due_plain, least_due_unlisted}
@@ -193,10 +193,10 @@ first_shown (w ∷ ws) up = sym (ap number_rows (first_is_least w.number (map (�
 
 -- ---- the queries
 
-pub finds_none : (kind m : ℕ) (old new : Connected) (rows : List Row) → Shown any_due_text (any_params kind m) old new rows → (s : State) → Rests old s
+pub finds_none : (kind m : ℕ) (old new : Connected) (rows : List Row) → Shown any_due_text (any_params kind m) old new rows → (s : State) → HoldsIfOpen old s
     → rows ≡ [] → due_numbers kind m s ≡ []
 finds_none kind m old new rows h s r none =
-    let here = r.stands (shown_open any_due_text (any_params kind m) old new rows h) in
+    let here = r (shown_open any_due_text (any_params kind m) old new rows h) in
     let way = here.way in
     let it = here.stands in
     let read = reads_as any_due_text (any_params kind m) old new (store_schema way) it.schema
@@ -214,9 +214,9 @@ finds_none kind m old new rows h s r none =
     unmapped (w ∷ ws) is = absurd cc
 
 pub finds_least : (kind : ℕ) (b : Option ℕ) (m : ℕ) (old new : Connected) (rows : List Row) → Shown least_due_text (least_params kind b m) old new rows
-    → (s : State) → Rests old s → rows ≡ number_rows (least (numbers_behind b (due_numbers kind m s)))
+    → (s : State) → HoldsIfOpen old s → rows ≡ number_rows (least (numbers_behind b (due_numbers kind m s)))
 finds_least kind b m old new rows h s r =
-    let here = r.stands (shown_open least_due_text (least_params kind b m) old new rows h) in
+    let here = r (shown_open least_due_text (least_params kind b m) old new rows h) in
     let way = here.way in
     let it = here.stands in
     let read = reads_as least_due_text (least_params kind b m) old new (store_schema way) it.schema

@@ -25,7 +25,7 @@ use Rattle.as2_rows.proofs.Joining.{pieces_rise}
 use Rattle.as2_mic.specs.Pieces.{piece_count}
 use Rattle.as2_store.specs.Tables.{Way, store_schema, inbox_piece_tree, outbox_piece_tree}
 use Rattle.as2_store.proofs.Statements.{in_pieces_text, out_pieces_text}
-use Rattle.as2_store.specs.Stands.{Rests}
+use Rattle.as2_store.specs.Stands.{HoldsIfOpen}
 use Rattle.as2_store.proofs.QueriedRows.{and_true, found_all}
 use Rattle.as2_store.proofs.Texts.{piece_terms, piece_column_terms, in_pieces_is, in_pieces_plain, in_pieces_unlisted, out_pieces_is, out_pieces_plain, out_pieces_unlisted}
 
@@ -115,21 +115,21 @@ module _ (way : Way) (sql : List ℕ) (tree : ℕ) (is : command_of (understood 
       (subst (IsAscending (λ (a b : Piece). value_cmp (whole a.position) (whole b.position) ≡ Less)) (sym own) (pieces_rise (number e) (content e))) read.answer
       ∙ ap (map piece_shown) own
 
-pub finds_in_pieces : (old new : Connected) (n : ℕ) (rows : List Row) → Shown in_pieces_text (number_params n) old new rows → (s : State) → Rests old s
+pub finds_in_pieces : (old new : Connected) (n : ℕ) (rows : List Row) → Shown in_pieces_text (number_params n) old new rows → (s : State) → HoldsIfOpen old s
     → (p : InEntry → Bool) (e : InEntry) → find p s.inbox ≡ Some e → n ≡ e.number
     → rows ≡ map piece_shown (pieces e.number e.posted.content)
 finds_in_pieces old new n rows h s r =
-    let here = r.stands (shown_open in_pieces_text (number_params n) old new rows h) in
+    let here = r (shown_open in_pieces_text (number_params n) old new rows h) in
     let way = here.way in
     let it = here.stands in
     finds_pieces way in_pieces_text (inbox_piece_tree way) (in_pieces_is way) (in_pieces_plain way) (in_pieces_unlisted way)
     (λ (e : InEntry). e.number) (λ e. e.posted.content) old new n rows h it.schema s.inbox it.entries.inbox_contents it.receipts.1.distinct
 
-pub finds_out_pieces : (old new : Connected) (n : ℕ) (rows : List Row) → Shown out_pieces_text (number_params n) old new rows → (s : State) → Rests old s
+pub finds_out_pieces : (old new : Connected) (n : ℕ) (rows : List Row) → Shown out_pieces_text (number_params n) old new rows → (s : State) → HoldsIfOpen old s
     → (p : OutEntry → Bool) (d : OutEntry) → find p s.outbox ≡ Some d → n ≡ d.number
     → rows ≡ map piece_shown (pieces d.number d.content)
 finds_out_pieces old new n rows h s r =
-    let here = r.stands (shown_open out_pieces_text (number_params n) old new rows h) in
+    let here = r (shown_open out_pieces_text (number_params n) old new rows h) in
     let way = here.way in
     let it = here.stands in
     finds_pieces way out_pieces_text outbox_piece_tree (out_pieces_is way) (out_pieces_plain way) (out_pieces_unlisted way)

@@ -26,7 +26,7 @@ use Rattle.as2_store.proofs.MetaRow.{said_fails, reads_said, says_held, meta_cel
 -- ---- a transaction that is given up
 
 pub gives_back : {S : Type 0} (g : Ghosts S) (old : Held S) (last : Connected) (end : Held S) (late commits : Trees → Type 0)
-    → IsInside (state g (record old { in_transaction = true })) last → Survives last (state g end) late
+    → IsInside 0 (state g (record old { in_transaction = true })) last → Survives last (state g end) late
     → (HasCleanDisk last → (db : Trees) → late db → commits db) → (state g end).in_transaction ≡ false
     → (HasCleanDisk (state g end) → IsRolledBack last (state g end)) → IsGivenBack commits (state g old) (state g end)
 gives_back g old last end late commits inside survives leads autocommit back =
@@ -47,7 +47,7 @@ gives_back g old last end late commits inside survives leads autocommit back =
 
 -- the ends of a call, whose connection is given back as `h`
 module _ {S : Type 0} (g : Ghosts S) (old : Held S) (last : Connected) (end h : Held S) (same : end ≡ h) (commits : Trees → Type 0)
-    (inside : IsInside (state g (record old { in_transaction = true })) last) where
+    (inside : IsInside 0 (state g (record old { in_transaction = true })) last) where
   -- the transaction is dropped
   pub hands_back : Survives last (state g end) (λ _. ⊥) → (state g end).in_transaction ≡ false
       → (HasCleanDisk (state g end) → IsRolledBack last (state g end)) → IsGivenBack commits (state g old) (state g h)

@@ -25,7 +25,7 @@ use Rattle.as2_exchange.specs.Readings.{value_of}
 use Rattle.as2_rows.specs.Rows.{in_row, in_shown}
 use Rattle.as2_store.specs.Tables.{Way, store_schema, inbox_tree}
 use Rattle.as2_store.proofs.Statements.{in_by_key_text, in_by_number_text, in_all_text}
-use Rattle.as2_store.specs.Stands.{Rests}
+use Rattle.as2_store.specs.Stands.{HoldsIfOpen}
 use Rattle.as2_exchange.specs.State.{has_key}
 use Rattle.as2_store.proofs.NumberedRows.{entries_rise}
 use Rattle.as2_store.proofs.QueriedRows.{reads_rows, and_true}
@@ -37,9 +37,9 @@ module _ (sql : List ℕ) (plain : (way : Way) → IsPlain (understood (store_sc
     (is : (way : Way) → command_of (understood (store_schema way) sql) ≡ Select
     (record { lets = []; body = over_table (inbox_tree way) terms in_column_terms by_number (lit (Int (negsuc 0))) }) in_names) (params : Row)
     (p : InEntry → Bool) (same : (e : InEntry) → passes terms params (in_row e) ≡ p e) where
-  reads_entries : (old new : Connected) (rows : List Row) → Shown sql params old new rows → (s : State) → Rests old s → rows ≡ map in_shown (filter p s.inbox)
+  reads_entries : (old new : Connected) (rows : List Row) → Shown sql params old new rows → (s : State) → HoldsIfOpen old s → rows ≡ map in_shown (filter p s.inbox)
   reads_entries old new rows h s r =
-      let here = r.stands (shown_open sql params old new rows h) in
+      let here = r (shown_open sql params old new rows h) in
       let way = here.way in
       let it = here.stands in
       reads_rows way sql (plain way) (unlisted way) (inbox_tree way) terms in_column_terms in_names (is way) params in_row in_shown
@@ -57,7 +57,7 @@ of_key sender receiver value e =
     (ap₂ ◌&&◌ (blobs_equal e.posted.receiver receiver) (ap (λ b. b && true) (blobs_equal (value_of e.posted.id) value) ∙ and_true _))
 
 pub finds_key : (sender receiver value : List ℕ) (old new : Connected) (rows : List Row)
-    → Shown in_by_key_text (key_params sender receiver value) old new rows → (s : State) → Rests old s
+    → Shown in_by_key_text (key_params sender receiver value) old new rows → (s : State) → HoldsIfOpen old s
     → rows ≡ map in_shown (filter (λ (e : InEntry). has_key sender receiver value e.posted) s.inbox)
 finds_key sender receiver value =
     reads_entries in_by_key_text in_by_key_plain in_by_key_unlisted key_terms in_by_key_is (key_params sender receiver value)
@@ -90,10 +90,10 @@ same_tests number n w beyond within [] all = tt
 same_tests number n w beyond within (e ∷ es) all = (same_test n w (number e) beyond within all.0, same_tests number n w beyond within es all.1)
 
 pub finds_number : (n w : ℕ) → (end_of_numbers ≤ n → w ≡ end_of_numbers) → (n < end_of_numbers → w ≡ n) → (old new : Connected) (rows : List Row)
-    → Shown in_by_number_text (by_number_params w) old new rows → (s : State) → Rests old s
+    → Shown in_by_number_text (by_number_params w) old new rows → (s : State) → HoldsIfOpen old s
     → rows ≡ map in_shown (filter (λ (e : InEntry). e.number == n) s.inbox)
 finds_number n w beyond within old new rows h s r =
-    let it = (r.stands (shown_open in_by_number_text (by_number_params w) old new rows h)).stands in
+    let it = (r (shown_open in_by_number_text (by_number_params w) old new rows h)).stands in
     let low = all_weaken (λ m. m < s.next_in) (λ m. m < end_of_numbers) (λ m less. omega (arith, less, it.receipts.0.most))
     (map (λ (e : InEntry). e.number) s.inbox) it.receipts.1.below in
     reads_entries in_by_number_text in_by_number_plain in_by_number_unlisted number_terms in_by_number_is (by_number_params w) (λ e. e.number == w)
@@ -105,7 +105,7 @@ every : (es : List InEntry) → filter (λ _. true) es ≡ es
 every [] = refl
 every (e ∷ es) = ap (λ l. e ∷ l) (every es)
 
-pub lists_all : (old new : Connected) (rows : List Row) → Shown in_all_text [] old new rows → (s : State) → Rests old s → rows ≡ map in_shown s.inbox
+pub lists_all : (old new : Connected) (rows : List Row) → Shown in_all_text [] old new rows → (s : State) → HoldsIfOpen old s → rows ≡ map in_shown s.inbox
 lists_all old new rows h s r = reads_entries in_all_text in_all_plain in_all_unlisted [] in_all_is [] (λ _. true) (λ _. refl) old new rows h s r
     ∙ ap (map in_shown) (every s.inbox)
 

@@ -5,7 +5,12 @@ mod ForeignKeys
 mod TransactionEnds
 mod Untouched
 pub mod Committing
+mod Seen
+mod Marking
 pub mod Querying
+mod ReadsBy
+mod QueriedWithin
+mod Turning
 mod HandedBack
 mod CreatedTables
 mod MetaRow

@@ -30,7 +30,7 @@ use Rattle.as2_exchange.specs.State.{State}
 use Rattle.as2_rows.specs.Rows.{whole}
 use Rattle.as2_store.specs.Tables.{Way, Layout, VersionThree, number_of, current_number, behind_meta, indexes_of, store_schema, meta_tree, meta_table}
 use Rattle.as2_store.proofs.Statements.{meta_read_text, receipt_text, document_text}
-use Rattle.as2_store.specs.Stands.{Stands, Holds, Rests, MetaSays, HasCounters, meta_row, meta_shown}
+use Rattle.as2_store.specs.Stands.{Stands, Holds, MetaSays, HasCounters, meta_row, meta_shown, HoldsIfOpen}
 use Rattle.as2_store.proofs.ForeignKeys.{quiet}
 use Rattle.as2_store.proofs.Texts.{meta_command, meta_columns, with_meta_first, meta_read_is, meta_read_plain, meta_read_unlisted, receipt_terms, receipt_project, receipt_is, receipt_plain, document_terms, document_project, document_is, document_plain}
 
@@ -99,11 +99,11 @@ says_of layout c s it = record {
 pub says_held : (c : Connected) (s : State) → Holds c.now s → MetaSays c (codes "as2-station") current_number
 says_held c s it = says_of (VersionThree it.way) c s it.stands
 
-pub reads_meta : (old new : Connected) (rows : List Row) → Shown meta_read_text [] old new rows → (s : State) → Rests old s
+pub reads_meta : (old new : Connected) (rows : List Row) → Shown meta_read_text [] old new rows → (s : State) → HoldsIfOpen old s
     → rows ≡ meta_shown current_number s.next_in s.next_out ∷ []
 unfolding says_of says_held
 reads_meta old new rows h s r =
-    reads_said old new rows h (codes "as2-station") current_number (says_held old s (r.stands (shown_open meta_read_text [] old new rows h)))
+    reads_said old new rows h (codes "as2-station") current_number (says_held old s (r (shown_open meta_read_text [] old new rows h)))
 
 -- ---- raising its counter
 

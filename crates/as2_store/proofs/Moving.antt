@@ -69,7 +69,7 @@ pub moved_commits : {S : Type 0} (g : Ghosts S) (old : Held S) (last : Connected
 moved_commits g old last it db is = record { was_open = it.was_open; stands = λ layout s r. next_kept layout last.now s db is (it.reaches layout s r) }
 
 pub migrates : {S : Type 0} (g : Ghosts S) (old : Held S) (mid last : Connected) (end : Held S) (rows : List Row) (version next : ℕ)
-    → IsInside (state g (record old { in_transaction = true })) last → Survives last (state g end) (λ db. db ≡ last.now.trees)
+    → IsInside 0 (state g (record old { in_transaction = true })) last → Survives last (state g end) (λ db. db ≡ last.now.trees)
     → (HasCleanDisk last → HasCleanDisk mid) → (HasCleanDisk mid → Shown meta_read_text [] (state g (record old { in_transaction = true })) mid rows)
     → Tells rows version next → ((state g old).now.schema.tables ≡ [] → ⊥)
     → (HasCleanDisk last → MovesEach g old last) → (HasCleanDisk (state g end) → Shows last (state g end) last.now last.now false)

@@ -21,7 +21,7 @@ use Rattle.as2_rows.specs.declared.evidence.EvidenceRow.{EvidenceRow}
 use Rattle.as2_records.specs.declared.summaries.OutRow.{OutRow}
 use Rattle.as2_store.specs.Tables.{outbox_tree, evidence_tree}
 use Rattle.as2_store.proofs.Statements.{out_by_id_text, out_by_number_text, evidence_by_number_text}
-use Rattle.as2_store.specs.Stands.{Rests, evidence_rows}
+use Rattle.as2_store.specs.Stands.{evidence_rows, HoldsIfOpen}
 use Rattle.as2_store.specs.Finding.{evidence_at, has_id, shown_evidence}
 use Rattle.as2_store.proofs.NumberedRows.{numbers_rise, given_rise, ordered_rise, entries_rise, found_number}
 use Rattle.as2_store.proofs.QueriedRows.{reads_rows, and_true}
@@ -32,10 +32,10 @@ use Rattle.as2_store.proofs.Texts.{out_column_terms, out_names, id_terms, number
 abbrev pub id_params : List ℕ → Row
 id_params value = Blob value ∷ []
 
-pub finds_id : (value : List ℕ) (old new : Connected) (rows : List Row) → Shown out_by_id_text (id_params value) old new rows → (s : State) → Rests old s
+pub finds_id : (value : List ℕ) (old new : Connected) (rows : List Row) → Shown out_by_id_text (id_params value) old new rows → (s : State) → HoldsIfOpen old s
     → rows ≡ map out_shown (filter (has_id value) s.outbox)
 finds_id value old new rows h s r =
-    let here = r.stands (shown_open out_by_id_text (id_params value) old new rows h) in
+    let here = r (shown_open out_by_id_text (id_params value) old new rows h) in
     let way = here.way in
     let it = here.stands in
     reads_rows way out_by_id_text (out_by_id_plain way) (out_by_id_unlisted way) outbox_tree id_terms out_column_terms out_names (out_by_id_is way)
@@ -44,10 +44,10 @@ finds_id value old new rows h s r =
     (entries_rise out_row (λ (d : OutEntry). d.number) (λ _. refl) s.next_out s.outbox it.documents.1)
 
 pub finds_document : (n w : ℕ) → (end_of_numbers ≤ n → w ≡ end_of_numbers) → (n < end_of_numbers → w ≡ n) → (old new : Connected) (rows : List Row)
-    → Shown out_by_number_text (by_number_params w) old new rows → (s : State) → Rests old s
+    → Shown out_by_number_text (by_number_params w) old new rows → (s : State) → HoldsIfOpen old s
     → rows ≡ map out_shown (filter (λ (d : OutEntry). d.number == n) s.outbox)
 finds_document n w beyond within old new rows h s r =
-    let here = r.stands (shown_open out_by_number_text (by_number_params w) old new rows h) in
+    let here = r (shown_open out_by_number_text (by_number_params w) old new rows h) in
     let way = here.way in
     let it = here.stands in
     let low = all_weaken (λ m. m < s.next_out) (λ m. m < end_of_numbers) (λ m less. omega (arith, less, it.documents.0.most))
@@ -153,10 +153,10 @@ as_shown n None = refl
 as_shown n (Some e) = refl
 
 pub finds_evidence : (n w : ℕ) → (end_of_numbers ≤ n → w ≡ end_of_numbers) → (n < end_of_numbers → w ≡ n) → (old new : Connected) (rows : List Row)
-    → Shown evidence_by_number_text (by_number_params w) old new rows → (s : State) → Rests old s
+    → Shown evidence_by_number_text (by_number_params w) old new rows → (s : State) → HoldsIfOpen old s
     → rows ≡ shown_evidence n (evidence_at s n)
 finds_evidence n w beyond within old new rows h s r =
-    let here = r.stands (shown_open evidence_by_number_text (by_number_params w) old new rows h) in
+    let here = r (shown_open evidence_by_number_text (by_number_params w) old new rows h) in
     let way = here.way in
     let it = here.stands in
     let low = all_weaken (λ m. m < s.next_out) (λ m. m < end_of_numbers) (λ m less. omega (arith, less, it.documents.0.most))

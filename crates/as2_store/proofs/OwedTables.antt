@@ -41,7 +41,7 @@ use Rattle.as2_store.proofs.InboxQueries.{same_tests}
 use Rattle.as2_store.proofs.ForeignKeys.{quiet}
 use Rattle.as2_store.proofs.Texts.{inbox_place, inbox_there, number_terms, owed_project, in_set_is, in_set_plain}
 use Rattle.as2_store.proofs.NumberedEntries.{in_number, Split, split, at_one, changed, changed_none, changed_split, none_numbered}
-use Rattle.as2_store.proofs.Committing.{FollowsEach}
+use Rattle.as2_store.proofs.Marking.{Follows}
 use Rattle.as2_store.proofs.Untouched.{AtMeta, AtInbox, AtInboxPiece, AtOutbox, AtOutboxPiece, AtEvidence, AtWaiting, AtOrigin, AtResent, keeping, still_emptied, still_origin, still_resent}
 use Rattle.as2_store.proofs.WaitingPlaces.{documents_rise, receipts_rise, places_rise, renewed}
 
@@ -238,38 +238,35 @@ stands_unnumbered way a b s n p it none one =
 
 -- ---- the transaction
 
-module _ {S : Type 0} (g : Ghosts S) (old : Held S) (mid : Connected) (n : ℕ) where
+module _ (begun mid : Connected) (n : ℕ) where
   abbrev Set : ReceiptProgress → ℕ → Type 0
-  Set p count = (way : Way) (s : State) → Stands (VersionThree way) (state g old).now s
-      → ChangesTable (state g (record old { in_transaction = true })) mid (store_schema way) (inbox_tree way)
+  Set p count = (way : Way) (s : State) → Stands (VersionThree way) begun.now s
+      → ChangesTable begun mid (store_schema way) (inbox_tree way)
       (map in_row (change_received s n (with_receipt_progress p)).inbox) × (count ≡ length (filter (λ (e : InEntry). e.number == n) s.inbox))
 
-  pub owes_none : (p : ReceiptProgress) (count : ℕ) → count ≡ 0 → (HasCleanDisk mid → IsTrue (state g old).is_open) → (HasCleanDisk mid → Set p count)
-      → HasCleanDisk mid → FollowsEach g old mid (set_receipt_in n p)
+  pub owes_none : (p : ReceiptProgress) (count : ℕ) → count ≡ 0 → (HasCleanDisk mid → IsTrue begun.is_open) → (HasCleanDisk mid → Set p count)
+      → HasCleanDisk mid → Follows begun mid (set_receipt_in n p)
   owes_none p count none opened put clean = record {
     was_open = opened clean;
-    reaches = λ s r.
-        let here = r.stands (opened clean) in
+    reaches = λ s here.
         let one = put clean here.way s here.stands in (
           change_received s n (with_receipt_progress p),
           refl,
           record {
             way = here.way;
-            stands = stands_unnumbered here.way (state g (record old { in_transaction = true })) mid s n p here.stands (sym one.1 ∙ none) one.0;
+            stands = stands_unnumbered here.way begun mid s n p here.stands (sym one.1 ∙ none) one.0;
           },
         );
   }
 
   pub owes_some : (last : Connected) (w : ℕ) (p : ReceiptProgress) → (n < end_of_numbers → w ≡ n) → (count : ℕ) → count ≢ 0
-      → (HasCleanDisk last → HasCleanDisk mid) → (HasCleanDisk mid → IsTrue (state g old).is_open) → (HasCleanDisk mid → Set p count)
+      → (HasCleanDisk last → HasCleanDisk mid) → (HasCleanDisk mid → IsTrue begun.is_open) → (HasCleanDisk mid → Set p count)
       → (HasCleanDisk last → (way : Way) (ws : List WaitingRow) → HoldsWaiting way mid.now ws
       → RenewsWaiting way mid last (noted_rows (answers_at w p) (map waiting_row (not_at (place_of to_send_receipt w) ws)))) → HasCleanDisk last
-      → FollowsEach g old last (set_receipt_in n p)
+      → Follows begun last (set_receipt_in n p)
   owes_some last w p within count some was opened put renewed clean = record {
     was_open = opened (was clean);
-    reaches = λ s r.
-        let begun = state g (record old { in_transaction = true }) in
-        let here = r.stands (opened (was clean)) in
+    reaches = λ s here.
         let way = here.way in
         let one = put (was clean) way s here.stands in
         let two = renewed clean way (all_waiting s) (holds way begun mid s here.stands _ one.0) in (

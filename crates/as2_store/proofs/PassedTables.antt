@@ -45,7 +45,7 @@ use Rattle.as2_store.proofs.Statements.{all_due_text, out_pass_text, waiting_tak
 use Rattle.as2_store.proofs.Texts.{number_terms, pass_project, out_pass_is, out_pass_plain, due_columns, any_due_terms, all_due_is, all_due_plain, all_due_unlisted, waiting_take_due_is, waiting_take_due_plain}
 use Rattle.as2_store.proofs.AddedPieces.{others_then}
 use Rattle.as2_store.proofs.ChangedDocuments.{changed_rows}
-use Rattle.as2_store.proofs.Committing.{FollowsEach}
+use Rattle.as2_store.proofs.Marking.{Follows}
 use Rattle.as2_store.proofs.DueRows.{any_params, any_passes, numbers_small}
 use Rattle.as2_store.proofs.ForeignKeys.{quiet}
 use Rattle.as2_store.proofs.NumberedRows.{numbers_rise, ordered_rise}
@@ -258,18 +258,17 @@ no_row (r ∷ rows) is = absurd (omega (arith, is))
 
 -- ---- the transaction
 
-module _ {S : Type 0} (g : Ghosts S) (old : Held S) (one last : Connected) (m first second : ℕ) where
+module _ (begun one last : Connected) (m first second : ℕ) where
   abbrev Passes : ℕ → Detail → ℕ → Connected → Connected → Type 0
   Passes kind detail count a b = (way : Way) (s : State) → Stands (VersionThree way) a.now s
       → Stands (VersionThree way) b.now (passing_in kind detail m s) × (count ≡ count_by (over kind m) s.outbox)
 
-  pub time_passes : (HasCleanDisk last → HasCleanDisk one) → (HasCleanDisk one → IsTrue (state g old).is_open)
-      → (HasCleanDisk one → Passes to_hear Overdue first (state g old) one) → (HasCleanDisk last → Passes to_end TriesUsed second one last)
-      → HasCleanDisk last → FollowsEach g old last (ticked_in m)
+  pub time_passes : (HasCleanDisk last → HasCleanDisk one) → (HasCleanDisk one → IsTrue begun.is_open)
+      → (HasCleanDisk one → Passes to_hear Overdue first begun one) → (HasCleanDisk last → Passes to_end TriesUsed second one last)
+      → HasCleanDisk last → Follows begun last (ticked_in m)
   time_passes was opened hear end clean = record {
     was_open = opened (was clean);
-    reaches = λ s r.
-        let here = r.stands (opened (was clean)) in
+    reaches = λ s here.
         let passed = hear (was clean) here.way s here.stands in
         let both = end clean here.way (passing_in to_hear Overdue m s) passed.0 in
         ((tick m s).1, refl, record { way = here.way; stands = subst (Stands (VersionThree here.way) last.now) (all_ticked m s) both.0 });

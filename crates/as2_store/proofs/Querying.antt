@@ -1,5 +1,5 @@
 -- A query in a transaction of its own.
-use Rattle.std.proofs.Common.{◌≡◌, ◌⊎◌, inl, ℕ, List, Some, Result, Ok, Err, IfOk, IfErr, OnOk, IsErr, IsErrAnd, IsTrue, MatchResult, true, refl, sym, subst, arith}
+use Rattle.std.proofs.Common.{◌≡◌, ◌⊎◌, inl, inr, ap, ◌∙◌, ℕ, List, take, Some, Result, Ok, Err, IfOk, IfErr, OnOk, IsErr, IsErrAnd, IsTrue, MatchResult, true, false, true≢false, refl, sym, subst, arith}
 use Rattle.std.proofs.lemmas.Result.{IfOk-weaker}
 use Rattle.sqlite_trees.specs.Tree.{Trees}
 use Rattle.sqlite.specs.Store.{Ghosts}
@@ -8,25 +8,38 @@ use Rattle.sqlite.specs.Order.{Row}
 use Rattle.sqlite.specs.Effect.{Database}
 use Rattle.sqlite.specs.Listing.{understood}
 use Rattle.sqlite.specs.declared.error.Error.{Error}
-use Rattle.sqlite.specs.State.{State as Connected, HasCleanDisk, Survives, KeepsCommit, Shown, FailsToQuery, IsTooLate}
+use Rattle.sqlite.specs.State.{State as Connected, HasCleanDisk, Survives, KeepsCommit, IsRolledBack, Shown, FailsToQuery, IsTooLate}
 use Rattle.sqlite.proofs.Callers.{IsPlain}
-use Rattle.sql_tables.proofs.Inside.{shown_open, shown_same}
+use Rattle.sql_tables.proofs.Inside.{Came, came_of, fails_to_query, shown_marks, shown_open, shown_same}
 use Rattle.sql_tables.proofs.Asking.{shown_keeps, failed_keeps, shown_alike}
 use Rattle.as2_exchange.specs.State.{State}
 use Rattle.as2_store.specs.Tables.{Way, store_schema}
 use Rattle.as2_store.specs.Stands.{Holds, Rests}
-use Rattle.as2_store.specs.Calls.{IsInside, ReadsTables, WritesTables, CommitsTables}
-use Rattle.as2_store.proofs.Committing.{FollowsEach}
+use Rattle.as2_store.specs.Calls.{IsInside, IsSettled, ReadsTables, WritesTables, CommitsTables}
+use Rattle.as2_store.proofs.Committing.{FollowsEach, settled_by, survives_same}
 use Rattle.sqlite.proofs.StateLemmas.{survives_then}
 
 -- ---- the query inside
 
-pub queried_inside : {V : Type 0} (items : V → List Row) (sql : List ℕ) (params : Row) (old new : Connected) (r : Result V Error)
+marks_of : (old new : Connected) → IsTrue new.in_transaction → Came old new → new.marks ≡ old.marks
+marks_of old new on (inl same) = same.1
+marks_of old new on (inr back) = absurd (true≢false (sym on ∙ back.autocommit))
+
+settles : (old new : Connected) → IsTrue old.in_transaction → Came old new → IsSettled new
+settles old new on (inl same) =
+    record { unmarked = λ off. absurd (true≢false (sym on ∙ sym same.0 ∙ off)); committed = λ off opened. absurd (true≢false (sym on ∙ sym same.0 ∙ off)) }
+settles old new on (inr back) = settled_by old new on (inr back)
+
+pub queried_inside : {V : Type 0} {held : ℕ} (items : V → List Row) (sql : List ℕ) (params : Row) (old new : Connected) (r : Result V Error)
     → (HasCleanDisk new → IsTrue old.in_transaction) → (HasCleanDisk new → IfOk r (λ v. Shown sql params old new (items v)))
-    → (HasCleanDisk new → IfErr r (λ e. FailsToQuery sql params old new e ⊎ IsTooLate sql params old new e)) → Survives old new (λ _. ⊥) → IsInside old new
-queried_inside items sql params old new r inside ok err survives = record {
+    → (HasCleanDisk new → IfErr r (λ e. FailsToQuery sql params old new e ⊎ IsTooLate sql params old new e)) → Survives old new (λ _. ⊥)
+    → IsInside held old new
+queried_inside {held = held} items sql params old new r inside ok err survives = record {
   clean = λ clean. omega (arith, survives.clean, clean);
   kept = λ clean. go r (inside clean) (ok clean) (err clean);
+  begun = λ clean on. inside clean;
+  marks = λ clean on long. ap (take held) (marks_of old new on (came clean));
+  settled = λ clean was. settles old new (inside clean) (came clean);
   survives = survives;
 }
   where
@@ -35,13 +48,22 @@ queried_inside items sql params old new r inside ok err survives = record {
     go (Ok v) begun shown failed = shown_keeps sql params old new (items v) begun shown
     go (Err e) begun shown failed = failed_keeps sql params old new e failed
 
+    said : (r : Result _ Error) → IfOk r (λ v. Shown sql params old new (items v)) → IfErr r (λ e. FailsToQuery sql params old new e ⊎ IsTooLate sql params old new e)
+        → Came old new
+    said (Ok v) shown failed = shown_marks sql params old new (items v) shown
+    said (Err e) shown (inl failed) = came_of old new (fails_to_query sql params old new e failed)
+    said (Err e) shown (inr late) = came_of old new (inl late.5)
+
+    came : HasCleanDisk new → Came old new
+    came clean = said r (ok clean) (err clean)
+
 -- the same of the first query of a transaction, over the connection as the transaction begins
 pub queried_first : {S V : Type 0} (g : Ghosts S) (old tx : Held S) (items : V → List Row) (sql : List ℕ) (params : Row) (new : Connected) (r : Result V Error)
     → tx ≡ record old { in_transaction = true } → (HasCleanDisk new → IfOk r (λ v. Shown sql params (state g tx) new (items v)))
     → (HasCleanDisk new → IfErr r (λ e. FailsToQuery sql params (state g tx) new e ⊎ IsTooLate sql params (state g tx) new e))
-    → Survives (state g tx) new (λ _. ⊥) → IsInside (state g (record old { in_transaction = true })) new
+    → Survives (state g tx) new (λ _. ⊥) → IsInside 0 (state g (record old { in_transaction = true })) new
 queried_first {S = S} g old tx items sql params new r begun ok err survives =
-    subst (λ (t : Held S). IsInside (state g t) new) begun
+    subst (λ (t : Held S). IsInside 0 (state g t) new) begun
     (queried_inside items sql params (state g tx) new r (λ clean. subst (λ (t : Held S). IsTrue t.in_transaction) (sym begun) refl) ok err survives)
 
 -- ---- a query of the store's tables
@@ -171,19 +193,16 @@ read_told {B = B} {F = F} fits more old new a (Ok b) told Q P cases is then it =
 read_told fits more old new a (Err e) (Ok b) Q P cases is then it = absurd cases
 read_told fits more old new a (Err e) (Err f) Q P cases is then it = read_err fits more old new (Ok a) f it
 
-pub survives_same : (c : Connected) (P : Trees → Type 0) → Survives c c P
-survives_same c P = record {
-  clean = omega arith;
-  shield = λ is. is;
-  counts = omega arith;
-  limit = refl;
-  closes = λ clean is. inl is;
-  crash = λ clean db may. inl may;
-}
-
 -- no statement ran
-pub nothing_inside : (c : Connected) → IsInside c c
-nothing_inside c = record { clean = λ clean. clean; kept = λ clean. record { was_open = λ o. o; committed = λ o. refl }; survives = survives_same c (λ _. ⊥) }
+pub nothing_inside : {held : ℕ} (c : Connected) → IsInside held c c
+nothing_inside c = record {
+  clean = λ clean. clean;
+  kept = λ clean. record { was_open = λ o. o; committed = λ o. refl };
+  begun = λ clean on. on;
+  marks = λ clean on long. refl;
+  settled = λ clean was. was;
+  survives = survives_same c (λ _. ⊥);
+}
 
 -- nothing is read, over an open connection
 pub unread : {A E : Type 0} (fits : State → A → Type 0) (old : Connected) (a : A) → (HasCleanDisk old → IsTrue old.is_open) → ((s : State) → fits s a)

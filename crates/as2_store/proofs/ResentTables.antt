@@ -23,10 +23,10 @@ use Rattle.as2_exchange.proofs.Lists.{all_weaken}
 use Rattle.as2_exchange.specs.State.{State}
 use Rattle.as2_exchange.specs.declared.outbox.OutEntry.{OutEntry}
 use Rattle.as2_rows.specs.Rows.{out_row}
-use Rattle.as2_store.specs.Calls.{ReadsTables}
+use Rattle.as2_store.specs.Rounds.{ReadsBy}
 use Rattle.as2_store.specs.Due.{number_row}
 use Rattle.as2_store.specs.Resending.{HoldsResent, IsReady, has_row, is_tried, tried_numbers}
-use Rattle.as2_store.specs.Stands.{IsWhole, Stands, Rests, numbers_of, resent_row}
+use Rattle.as2_store.specs.Stands.{IsWhole, Stands, numbers_of, resent_row, HoldsIfOpen}
 use Rattle.as2_store.specs.Tables.{Way, VersionThree, store_schema, outbox_tree, resent_table, resent_tree}
 use Rattle.as2_store.proofs.Statements.{resent_put_text, resent_read_text, resent_take_text, tried_text}
 use Rattle.as2_store.proofs.Texts.{number_terms, resent_column_terms, resent_place, resent_put_is, resent_put_plain, resent_put_terms, resent_read_is, resent_read_plain, resent_read_unlisted, resent_take_is, resent_take_plain, resent_there, tried_is, tried_plain, tried_terms, tried_unlisted}
@@ -35,7 +35,7 @@ use Rattle.as2_store.proofs.MetaRow.{one_param}
 use Rattle.as2_store.proofs.NumberedEntries.{Split, out_number, split}
 use Rattle.as2_store.proofs.NumberedRows.{entries_rise, numbers_rise}
 use Rattle.as2_store.proofs.QueriedRows.{and_true, reads_rows}
-use Rattle.as2_store.proofs.Querying.{read_ok, reads_standing, unread}
+use Rattle.as2_store.proofs.ReadsBy.{read_ok, reads_standing, unread}
 use Rattle.as2_store.proofs.ResentRows.{marked_before, marks, now_marked, or_this, resent_in_order}
 use Rattle.as2_store.proofs.Untouched.{AtMeta, AtInbox, AtInboxPiece, AtOutbox, AtOutboxPiece, AtEvidence, AtWaiting, AtOrigin, AtResent, keeping, still_emptied, still_origin}
 
@@ -290,11 +290,11 @@ found_begun was p (x ∷ ds) d all found = go (p x) found (λ later. found_begun
     go true is later = let same : x ≡ d = cc in subst (λ (y : OutEntry). y.begun ≡ (nat_le 1 y.tries || was y.number)) same all.0
     go false is later = later is
 
-pub finds_resent : (n : ℕ) (old new : Connected) (rows : List Row) → Shown resent_read_text (one_param n) old new rows → (s : State) → Rests old s
+pub finds_resent : (n : ℕ) (old new : Connected) (rows : List Row) → Shown resent_read_text (one_param n) old new rows → (s : State) → HoldsIfOpen old s
     → (p : OutEntry → Bool) (d : OutEntry) → find p s.outbox ≡ Some d → n ≡ d.number
     → d.begun ≡ (nat_le 1 d.tries || has_row rows)
 finds_resent n old new rows h s r p d found same =
-    let here = r.stands (shown_open resent_read_text (one_param n) old new rows h) in
+    let here = r (shown_open resent_read_text (one_param n) old new rows h) in
     let way = here.way in
     let it = here.stands in
     let kept = filter it.begun.was (numbers_of s.outbox) in
@@ -319,7 +319,7 @@ module _ (number tries : ℕ) where
 
   -- its tries tell
   pub tells_by_tries : {E : Type 0} (old : Connected) → (HasCleanDisk old → IsTrue old.is_open) → nat_le 1 tries ≡ true
-      → ReadsTables {E = E} tells old old (Ok true)
+      → ReadsBy {E = E} tells old old (Ok true)
   tells_by_tries old opened some =
       reads_standing (λ s b. b ≡ true) tells old old (Ok true)
       (λ s b here is p d found one two. is ∙ tried_is_begun old s here.stands p d found (subst (λ t. nat_le 1 t ≡ true) two some))
@@ -327,8 +327,8 @@ module _ (number tries : ℕ) where
 
   -- its row tells
   pub tells_by_row : {E F : Type 0} (old new : Connected) (rows : Vec Row Global) (b : Bool) → nat_le 1 tries ≡ false → b ≡ has_row rows.items
-      → ReadsTables {E = E} (λ s rows. (p : OutEntry → Bool) (d : OutEntry) → find p s.outbox ≡ Some d → number ≡ d.number
-      → d.begun ≡ (nat_le 1 d.tries || has_row rows.items)) old new (Ok rows) → ReadsTables {E = F} tells old new (Ok b)
+      → ReadsBy {E = E} (λ s rows. (p : OutEntry → Bool) (d : OutEntry) → find p s.outbox ≡ Some d → number ≡ d.number
+      → d.begun ≡ (nat_le 1 d.tries || has_row rows.items)) old new (Ok rows) → ReadsBy {E = F} tells old new (Ok b)
   tells_by_row old new rows b none is it =
       read_ok _ tells old new rows b
       (λ s r told p d found one two. is ∙ sym (told p d found one ∙ ap (λ t. t || has_row rows.items) (subst (λ t. nat_le 1 t ≡ false) two none))) it

@@ -20,7 +20,7 @@ use Rattle.as2_rows.specs.Codes.{attempt_code, detail_code}
 use Rattle.as2_rows.specs.Contents.{piece_shown}
 use Rattle.as2_rows.specs.Waiting.{WaitingRow}
 use Rattle.as2_records.specs.declared.progress.Progress.{Progress}
-use Rattle.as2_store.specs.Calls.{WritesTables}
+use Rattle.as2_store.specs.Rounds.{WritesBy}
 use Rattle.as2_store.specs.Tables.{Way, VersionThree, store_schema, outbox_table, outbox_tree, outbox_piece_tree, resent_tree}
 use Rattle.as2_store.specs.Stands.{IsWhole, Stands, Holds, HasResent, resent_row, waiting_row, all_waiting}
 use Rattle.as2_store.specs.Adding.{noted_rows}
@@ -35,7 +35,7 @@ use Rattle.as2_records.specs.Resending.{queued_anew, resent_in}
 use Rattle.as2_store.proofs.Statements.{out_set_text}
 use Rattle.as2_store.proofs.Texts.{number_terms, set_project, out_set_is, out_set_plain}
 use Rattle.as2_store.proofs.ForeignKeys.{quiet}
-use Rattle.as2_store.proofs.Committing.{FollowsEach}
+use Rattle.as2_store.proofs.Marking.{Follows}
 use Rattle.as2_store.proofs.NumberedRows.{numbers_rise, entries_rise}
 use Rattle.as2_store.proofs.NumberedEntries.{Split, changed, out_number, split}
 use Rattle.as2_store.proofs.Untouched.{AtMeta, AtInbox, AtInboxPiece, AtOutbox, AtOutboxPiece, AtEvidence, AtWaiting, AtOrigin, AtResent, keeping, still_emptied, still_origin, still_resent}
@@ -150,23 +150,22 @@ stands_set way a b c s n p it marked place one two =
 -- ---- the transaction
 
 -- an Ok of the statements: there is such a document
-pub comes_further : {S : Type 0} (g : Ghosts S) (old : Held S) (mid one last : Connected) (n w : ℕ) (p : Progress) → (end_of_numbers ≤ n → w ≡ end_of_numbers)
+pub comes_further : (begun mid one last : Connected) (n w : ℕ) (p : Progress) → (end_of_numbers ≤ n → w ≡ end_of_numbers)
     → (n < end_of_numbers → w ≡ n)
     → (count : ℕ) → count ≢ 0 → (HasCleanDisk last → HasCleanDisk one) → (HasCleanDisk one → HasCleanDisk mid)
-    → (HasCleanDisk mid → KeepsCommit (state g (record old { in_transaction = true })) mid) → (HasCleanDisk one → IsTrue mid.is_open)
-    → (HasCleanDisk mid → (way : Way) (s : State) → Stands (VersionThree way) (state g old).now s → IsReady way mid.now s w p.tries)
+    → (HasCleanDisk mid → KeepsCommit begun mid) → (HasCleanDisk one → IsTrue mid.is_open)
+    → (HasCleanDisk mid → (way : Way) (s : State) → Stands (VersionThree way) begun.now s → IsReady way mid.now s w p.tries)
     → (HasCleanDisk one → (way : Way) (s : State) → Stands (VersionThree way) mid.now s
     → ChangesTable mid one (store_schema way) outbox_tree (map out_row (change_document s w (come_to p)).outbox)
     × (count ≡ length (filter (λ (d : OutEntry). d.number == w) s.outbox)))
     → (HasCleanDisk last → (way : Way) (ws : List WaitingRow) → HoldsWaiting way one.now ws
     → RenewsWaiting way one last (noted_rows (waits_at w p) (map waiting_row (without_document w ws))))
-    → HasCleanDisk last → FollowsEach g old last (set_out_in n p)
-comes_further g old mid one last n w p beyond within count some was was_mid kept open_then readied set renewed clean =
+    → HasCleanDisk last → Follows begun last (set_out_in n p)
+comes_further begun mid one last n w p beyond within count some was was_mid kept open_then readied set renewed clean =
     let opened = (kept (was_mid (was clean))).was_open (open_then (was clean)) in
     record {
       was_open = opened;
-      reaches = λ s r.
-          let here = r.stands opened in
+      reaches = λ s here.
           let way = here.way in
           let ready = readied (was_mid (was clean)) way s here.stands in
           let stood = ready.stands in
@@ -220,6 +219,6 @@ queues_one n m s = ap (λ ds. record s { outbox = ds }) (each s.outbox)
 pub queues : (n m : ℕ) → set_out_in n (anew m) ≡ resent_in n m
 queues n m = λ i s. option_map (λ _. queues_one n m s i) (document s n)
 
-pub queued : {A E : Type 0} (n m : ℕ) (old new : Connected) (r : Result A E) → WritesTables (set_out_in n (anew m)) old new r
-    → WritesTables (resent_in n m) old new r
-queued n m old new r it = subst (λ next. WritesTables next old new r) (queues n m) it
+pub queued : {A E : Type 0} (n m : ℕ) (old new : Connected) (r : Result A E) → WritesBy (set_out_in n (anew m)) old new r
+    → WritesBy (resent_in n m) old new r
+queued n m old new r it = subst (λ next. WritesBy next old new r) (queues n m) it

@@ -12,7 +12,7 @@ use Rattle.as2_rows.specs.declared.evidence.EvidenceRow.{EvidenceRow}
 use Rattle.as2_store.specs.Tables.{evidence_tree}
 use Rattle.as2_store.specs.Due.{number_row}
 use Rattle.as2_records.specs.Listing.{settled_numbers}
-use Rattle.as2_store.specs.Stands.{Rests}
+use Rattle.as2_store.specs.Stands.{HoldsIfOpen}
 use Rattle.as2_store.proofs.Statements.{settled_text}
 use Rattle.as2_store.proofs.NumberedRows.{given_rise, numbers_rise, ordered_rise}
 use Rattle.as2_store.proofs.OutboxQueries.{kept, receipt_row, receipts, row_of, rows_of}
@@ -35,10 +35,10 @@ are_settled (d ∷ ds) = go d.evidence refl (are_settled ds)
     go None is rest = rest
     go (Some e) is rest = ap (λ l. number_row d.number ∷ l) rest
 
-pub finds_settled : (old new : Connected) (rows : List Row) → Shown settled_text [] old new rows → (s : State) → Rests old s
+pub finds_settled : (old new : Connected) (rows : List Row) → Shown settled_text [] old new rows → (s : State) → HoldsIfOpen old s
     → rows ≡ map number_row (settled_numbers s)
 finds_settled old new rows h s r =
-    let here = r.stands (shown_open settled_text [] old new rows h) in
+    let here = r (shown_open settled_text [] old new rows h) in
     let way = here.way in
     let it = here.stands in
     reads_rows way settled_text (settled_plain way) (settled_unlisted way) evidence_tree [] settled_column_terms (codes "number" ∷ [])

@@ -35,7 +35,7 @@ use Rattle.as2_store.specs.Requeuing.{HoldsWaiting, RenewsWaiting}
 use Rattle.as2_exchange.specs.Documents.{settled_as}
 use Rattle.as2_store.specs.Settling.{without_document}
 use Rattle.as2_records.specs.Settling.{settled_in}
-use Rattle.as2_store.proofs.Committing.{FollowsEach}
+use Rattle.as2_store.proofs.Marking.{Follows}
 use Rattle.as2_store.proofs.Unsettled.{some_found, fresh_unsettled}
 use Rattle.as2_store.proofs.MetaRow.{fits_i64}
 use Rattle.as2_store.proofs.NumberedRows.{numbers_rise, entries_rise, rises, falls}
@@ -273,26 +273,24 @@ settled_next : (s : State) (n : ℕ) (detail : Detail) (e : Evidence) (d : OutEn
 settled_next s n detail e d found not_yet by = rw (found, not_yet, by) refl
 
 -- an Ok of the three statements: there is such a document, and no receipt has settled it
-pub ends : {S : Type 0} (g : Ghosts S) (old : Held S) (one two last : Connected) (n w : ℕ) (detail : Detail) (e : Evidence) → is_by_receipt detail ≡ true
+pub ends : (begun one two last : Connected) (n w : ℕ) (detail : Detail) (e : Evidence) → is_by_receipt detail ≡ true
     → (end_of_numbers ≤ n → w ≡ end_of_numbers) → (n < end_of_numbers → w ≡ n)
     → (count : ℕ) → count ≢ 0 → (HasCleanDisk two → HasCleanDisk one) → (HasCleanDisk last → HasCleanDisk two)
-    → (HasCleanDisk one → IsTrue (state g old).is_open)
-    → (HasCleanDisk one → (way : Way) (s : State) → Stands (VersionThree way) (state g old).now s → (e : Evidence)
-    → ChangesTable (state g (record old { in_transaction = true })) one (store_schema way) outbox_tree
+    → (HasCleanDisk one → IsTrue begun.is_open)
+    → (HasCleanDisk one → (way : Way) (s : State) → Stands (VersionThree way) begun.now s → (e : Evidence)
+    → ChangesTable begun one (store_schema way) outbox_tree
     (map out_row (change_document s w (settled_as detail e)).outbox) × (count ≡ length (filter (λ (d : OutEntry). d.number == w) s.outbox)))
     → (HasCleanDisk two → (way : Way) → one.now.schema ≡ store_schema way
     → ChangesTable one two (store_schema way) evidence_tree (put_row (evidence_row w e) (one.now.trees evidence_tree))
     × (are_fresh (one.now.trees evidence_tree) (evidence_row w e ∷ []) ≡ true))
     → (HasCleanDisk last → (way : Way) (ws : List WaitingRow) → HoldsWaiting way two.now ws
     → RenewsWaiting way two last (map waiting_row (without_document w ws)))
-    → HasCleanDisk last → FollowsEach g old last (settled_in n detail e)
-ends g old one two last n w detail e by beyond within count some was_one was_two opened set put taken clean =
-    let begun = state g (record old { in_transaction = true }) in
+    → HasCleanDisk last → Follows begun last (settled_in n detail e)
+ends begun one two last n w detail e by beyond within count some was_one was_two opened set put taken clean =
     let late = was_one (was_two clean) in
     record {
       was_open = opened late;
-      reaches = λ s r.
-          let here = r.stands (opened late) in
+      reaches = λ s here.
           let way = here.way in
           let stood = here.stands in
           let first = set late way s stood e in

@@ -20,7 +20,7 @@ use Rattle.as2_rows.specs.Rows.{out_row, out_shown}
 use Rattle.as2_records.specs.Summaries.{out_summary}
 use Rattle.as2_records.specs.declared.summaries.OutRow.{OutRow}
 use Rattle.as2_store.specs.Listing.{detail_in, first_detail, last_detail, state_codes}
-use Rattle.as2_store.specs.Stands.{Rests}
+use Rattle.as2_store.specs.Stands.{HoldsIfOpen}
 use Rattle.as2_store.specs.Tables.{outbox_tree}
 use Rattle.as2_store.proofs.NumberedRows.{entries_rise}
 use Rattle.as2_store.proofs.QueriedRows.{and_true, reads_rows}
@@ -74,10 +74,10 @@ none_lost wanted (d ∷ ds) = go (is_between wanted d.detail) (is_in wanted d) r
     go false false own is rest = rest ∙ sym (ap (λ t. cond t (d ∷ filter (is_in wanted) ds) (filter (is_in wanted) ds)) own)
 
 pub lists_between : (wanted : Option DetailClass) (old new : Connected) (rows : List Row) → Shown out_by_details_text (state_codes wanted) old new rows
-    → (s : State) → Rests old s
+    → (s : State) → HoldsIfOpen old s
     → rows ≡ map out_shown (filter (λ (d : OutEntry). is_between wanted d.detail) s.outbox)
 lists_between wanted old new rows h s r =
-    let here = r.stands (shown_open out_by_details_text (state_codes wanted) old new rows h) in
+    let here = r (shown_open out_by_details_text (state_codes wanted) old new rows h) in
     let way = here.way in
     let it = here.stands in
     reads_rows way out_by_details_text (out_by_details_plain way)

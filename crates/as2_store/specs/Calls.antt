@@ -1,5 +1,5 @@
 -- What each call says, beside what it is for.
-use Rattle.std.specs.Prelude.{◌≡◌, ◌⊎◌, ℕ, List, true, false, Option, Some, None, Result, IfOk, OnOk, OnErr, IsTrue}
+use Rattle.std.specs.Prelude.{◌≡◌, ◌⊎◌, ◌≤◌, ℕ, List, [], length, take, true, false, Option, Some, None, Result, IfOk, OnOk, OnErr, IsTrue}
 use Rattle.sqlite_trees.specs.Tree.{Trees}
 use Rattle.sqlite.specs.State.{State as Connected, HasCleanDisk, KeepsCommit, Survives}
 use Rattle.as2_exchange.specs.State.{State, LaterVersion, empty}
@@ -9,11 +9,19 @@ use Rattle.as2_store.specs.Tables.{Way, VersionThree, store_schema}
 use Rattle.as2_store.specs.Stands.{Stands, Rests, IsBlank, MetaSays, adoption_fault}
 use Rattle.as2_records.specs.Standing.{may_come}
 
--- A statement inside a transaction. It commits nothing, and a crash behind it leaves only what one before it might have
--- left.
-pub record IsInside (old new : Connected) : Type 0 where
+-- where no transaction is open, none is marked, and all is committed
+pub record IsSettled (c : Connected) : Type 0 where
+  pub unmarked : c.in_transaction ≡ false → c.marks ≡ []
+  pub committed : c.in_transaction ≡ false → IsTrue c.is_open → c.now ≡ c.committed
+
+-- A statement inside a transaction that holds so many of the oldest savepoints. It begins none, commits nothing and keeps these savepoints,
+-- and a crash behind it leaves only what one before it might have left. A failure may end the transaction.
+pub record IsInside (held : ℕ) (old new : Connected) : Type 0 where
   pub clean : HasCleanDisk new → HasCleanDisk old
   pub kept : HasCleanDisk new → KeepsCommit old new
+  pub begun : HasCleanDisk new → IsTrue new.in_transaction → IsTrue old.in_transaction
+  pub marks : HasCleanDisk new → IsTrue new.in_transaction → held ≤ length old.marks → take held new.marks ≡ take held old.marks
+  pub settled : HasCleanDisk new → IsSettled old → IsSettled new
   pub survives : Survives old new (λ _. ⊥)
 
 -- ---- what a crash leaves

@@ -13,12 +13,12 @@ use Rattle.as2_exchange.specs.declared.answer.Answer.TheVariants.{Ticked}
 use Rattle.as2_exchange.specs.declared.outbox.OutEntry.{OutEntry}
 use Rattle.as2_rows.specs.Rows.{out_row}
 use Rattle.as2_rows.specs.Waiting.{WaitingRow, out_kind, to_hear, to_end}
-use Rattle.as2_store.specs.Stands.{Rests}
+use Rattle.as2_store.specs.Stands.{HoldsIfOpen}
 use Rattle.as2_store.specs.Tables.{Way, store_schema, outbox_tree}
 
 -- it is how many documents Tick tells
 abbrev pub TicksTablesAs : ℕ → Connected → ℕ → Type 0
-TicksTablesAs m old count = (s : State) → Rests old s → Ticked count ≡ (tick m s).0
+TicksTablesAs m old count = (s : State) → HoldsIfOpen old s → Ticked count ≡ (tick m s).0
 
 -- ---- the documents of one kind
 

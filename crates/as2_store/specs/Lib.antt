@@ -1,6 +1,7 @@
 pub mod Tables
 pub mod Stands
 pub mod Calls
+pub mod Rounds
 pub mod Adding
 pub mod Finding
 pub mod Listing

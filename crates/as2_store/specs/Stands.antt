@@ -156,6 +156,10 @@ pub record Holds (d : Database) (s : State) : Type 0 where
   pub way : Way
   pub stands : Stands (VersionThree way) d s
 
+-- the tables hold this state, unless a fault of the disk has shut the connection
+abbrev pub HoldsIfOpen : Connected → State → Type 0
+HoldsIfOpen c s = IsTrue c.is_open → Holds c.now s
+
 -- Outside a transaction the tables hold this state, unless a fault of the disk has shut the connection. The state is of a version
 -- that knows each digest.
 pub record Rests (c : Connected) (s : State) : Type 0 where

@@ -1,9 +1,10 @@
 //! The rows of the contents.
 
-ghost use Rattle.std.specs.Prelude.{◌≡◌, [], ◌∷◌, ◌<◌, ◌^◌, false, Bool, Some, find, map, length, IsTrue, IfOk, OnOk};
+ghost use Rattle.std.specs.Prelude.{◌≡◌, ◌+◌, [], ◌∷◌, ◌<◌, ◌^◌, false, Bool, Some, find, map, length, IsTrue, IfOk, OnOk};
 ghost use Rattle.sqlite.specs.Held.{state};
 ghost use Rattle.sqlite.specs.State.{HasCleanDisk};
-ghost use Rattle.as2_store.specs.Calls.{IsInside, ReadsTables};
+ghost use Rattle.as2_store.specs.Calls.{IsInside};
+ghost use Rattle.as2_store.specs.Rounds.{ReadsBy};
 ghost use Rattle.as2_rows.specs.Contents.{pieces, piece_shown};
 ghost use Rattle.as2_exchange.specs.State.{State};
 ghost use Rattle.as2_exchange.specs.declared.inbox.InEntry.{InEntry as Entry};
@@ -15,7 +16,7 @@ ghost use Rattle.as2_store.specs.Stands.{Rests};
 use crate::numbers::whole;
 use crate::reading::query_all;
 use as2_mic::Pieces;
-use sqlite::{Alter, Connection, Error, Row, Transaction, params};
+use sqlite::{Alter, Connection, Error, Row, Savepoint, params};
 
 /// Where an entry is kept.
 #[derive(Clone, Copy, Debug, PartialEq, Eq)]
@@ -26,7 +27,7 @@ pub enum Mailbox {
 
 /// Puts in a piece of the content of an entry.
 fn put_piece<S: Alter>(
-    tx: &mut Transaction<'_, S>,
+    tx: &mut Savepoint<'_, S>,
     mailbox: Mailbox,
     number: u64,
     position: u64,
@@ -35,7 +36,8 @@ fn put_piece<S: Alter>(
     requires number { number < 2 ^ 63 }
     requires position { position < 2 ^ 63 }
     ensures same_reference { tx.new.conn.ghost_name ≡ tx.old.conn.ghost_name }
-    ensures within { IsInside (state S.Store tx.old.conn.now) (state S.Store tx.new.conn.now) }
+    ensures place { tx.new.at ≡ tx.old.at }
+    ensures within { IsInside (tx.old.at + 1) (state S.Store tx.old.conn.now) (state S.Store tx.new.conn.now) }
     ensures put { HasCleanDisk (state S.Store tx.new.conn.now)
         → OnOk result ((way : Way) → (state S.Store tx.old.conn.now).now.schema ≡ store_schema way
         → AppendsPieces way (state S.Store tx.old.conn.now) (state S.Store tx.new.conn.now) (piece_tree way mailbox)
@@ -58,7 +60,7 @@ fn put_piece<S: Alter>(
 
 /// Puts in all pieces of the content of an entry.
 pub fn put_pieces<S: Alter>(
-    tx: &mut Transaction<'_, S>,
+    tx: &mut Savepoint<'_, S>,
     mailbox: Mailbox,
     number: u64,
     content: &Pieces,
@@ -66,7 +68,8 @@ pub fn put_pieces<S: Alter>(
     requires number { number < 2 ^ 63 }
     requires length { length content.now < 2 ^ 63 }
     ensures same_reference { tx.new.conn.ghost_name ≡ tx.old.conn.ghost_name }
-    ensures within { IsInside (state S.Store tx.old.conn.now) (state S.Store tx.new.conn.now) }
+    ensures place { tx.new.at ≡ tx.old.at }
+    ensures within { IsInside (tx.old.at + 1) (state S.Store tx.old.conn.now) (state S.Store tx.new.conn.now) }
     ensures put { HasCleanDisk (state S.Store tx.new.conn.now)
         → OnOk result ((way : Way) → (state S.Store tx.old.conn.now).now.schema ≡ store_schema way
         → AppendsPieces way (state S.Store tx.old.conn.now) (state S.Store tx.new.conn.now) (piece_tree way mailbox)
@@ -82,10 +85,8 @@ pub fn put_pieces<S: Alter>(
 
 /// The rows of the content of an entry of the inbox, in order.
 pub fn in_piece_rows<S: Alter>(conn: &mut Connection<S>, number: u64) -> Result<Vec<Row>, Error>
-    requires autocommit { conn.old.in_transaction ≡ false }
     requires number { number < 2 ^ 63 }
-    ensures autocommit { conn.new.in_transaction ≡ false }
-    ensures rows { ReadsTables (λ s rows. (p : Entry → Bool) (e : Entry) → find p s.inbox ≡ Some e → number ≡ e.number
+    ensures rows { ReadsBy (λ s rows. (p : Entry → Bool) (e : Entry) → find p s.inbox ≡ Some e → number ≡ e.number
         → rows.items
         ≡ map piece_shown (pieces e.number e.posted.content)) (state S.Store conn.old) (state S.Store conn.new) result }
 {
@@ -99,10 +100,8 @@ pub fn in_piece_rows<S: Alter>(conn: &mut Connection<S>, number: u64) -> Result<
 
 /// The rows of the content of a document, in order.
 pub fn out_piece_rows<S: Alter>(conn: &mut Connection<S>, number: u64) -> Result<Vec<Row>, Error>
-    requires autocommit { conn.old.in_transaction ≡ false }
     requires number { number < 2 ^ 63 }
-    ensures autocommit { conn.new.in_transaction ≡ false }
-    ensures rows { ReadsTables (λ s rows. (p : Document → Bool) (d : Document) → find p s.outbox ≡ Some d
+    ensures rows { ReadsBy (λ s rows. (p : Document → Bool) (d : Document) → find p s.outbox ≡ Some d
         → number ≡ d.number
         → rows.items
         ≡ map piece_shown (pieces d.number d.content)) (state S.Store conn.old) (state S.Store conn.new) result }

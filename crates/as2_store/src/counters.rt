@@ -3,7 +3,8 @@
 ghost use Rattle.std.specs.Prelude.{◌≡◌, ◌≢◌, true, ℕ, ◌+◌, [], ◌∷◌, List, false, ◌<◌, ◌^◌, IsTrue, IfOk, IfErr, OnOk};
 ghost use Rattle.sqlite.specs.Held.{state};
 ghost use Rattle.sqlite.specs.State.{HasCleanDisk};
-ghost use Rattle.as2_store.specs.Calls.{IsInside, ReadsTables};
+ghost use Rattle.as2_store.specs.Calls.{IsInside};
+ghost use Rattle.as2_store.specs.Rounds.{ReadsBy};
 ghost use Rattle.sqlite.specs.declared.types.Value.TheVariants.{Text};
 ghost use Rattle.sql_tables.specs.Changes.{ChangesTable, IsOutside};
 ghost use Rattle.as2_exchange.specs.State.{State};
@@ -19,13 +20,13 @@ use crate::numbers::whole;
 use crate::reading::query_all;
 use as2_exchange::{RowPlace, StoreFault, Table};
 use as2_records::NextNumbers;
-use sqlite::{Alter, Connection, Error, Row, Transaction, params};
+use sqlite::{Alter, Connection, Error, Row, Savepoint, Transaction, params};
 
 /// Puts in the row, with both counters at the first number.
 pub fn put_meta<S: Alter>(tx: &mut Transaction<'_, S>, first: u64) -> Result<(), Error>
     requires { first < 2 ^ 63 }
     ensures same_reference { tx.new.conn.ghost_name ≡ tx.old.conn.ghost_name }
-    ensures within { IsInside (state S.Store tx.old.conn.now) (state S.Store tx.new.conn.now) }
+    ensures within { IsInside 0 (state S.Store tx.old.conn.now) (state S.Store tx.new.conn.now) }
     ensures open { HasCleanDisk (state S.Store tx.new.conn.now)
         → OnOk result (IsTrue (state S.Store tx.old.conn.now).is_open) }
     ensures inside { HasCleanDisk (state S.Store tx.new.conn.now)
@@ -44,13 +45,11 @@ pub fn put_meta<S: Alter>(tx: &mut Transaction<'_, S>, first: u64) -> Result<(),
 }
 
 /// Raises the next number of a receipt past this one, and answers in how many rows it was this one.
-pub fn raise_next_receipt<S: Alter>(
-    tx: &mut Transaction<'_, S>,
-    number: u64,
-) -> Result<usize, Error>
+pub fn raise_next_receipt<S: Alter>(tx: &mut Savepoint<'_, S>, number: u64) -> Result<usize, Error>
     requires { number + 1 < 2 ^ 63 }
     ensures same_reference { tx.new.conn.ghost_name ≡ tx.old.conn.ghost_name }
-    ensures within { IsInside (state S.Store tx.old.conn.now) (state S.Store tx.new.conn.now) }
+    ensures place { tx.new.at ≡ tx.old.at }
+    ensures within { IsInside (tx.old.at + 1) (state S.Store tx.old.conn.now) (state S.Store tx.new.conn.now) }
     ensures open { HasCleanDisk (state S.Store tx.new.conn.now)
         → OnOk result (IsTrue (state S.Store tx.old.conn.now).is_open) }
     ensures inside { HasCleanDisk (state S.Store tx.new.conn.now)
@@ -71,13 +70,11 @@ pub fn raise_next_receipt<S: Alter>(
 }
 
 /// Raises the next number of a document past this one, and answers in how many rows it was this one.
-pub fn raise_next_document<S: Alter>(
-    tx: &mut Transaction<'_, S>,
-    number: u64,
-) -> Result<usize, Error>
+pub fn raise_next_document<S: Alter>(tx: &mut Savepoint<'_, S>, number: u64) -> Result<usize, Error>
     requires { number + 1 < 2 ^ 63 }
     ensures same_reference { tx.new.conn.ghost_name ≡ tx.old.conn.ghost_name }
-    ensures within { IsInside (state S.Store tx.old.conn.now) (state S.Store tx.new.conn.now) }
+    ensures place { tx.new.at ≡ tx.old.at }
+    ensures within { IsInside (tx.old.at + 1) (state S.Store tx.old.conn.now) (state S.Store tx.new.conn.now) }
     ensures open { HasCleanDisk (state S.Store tx.new.conn.now)
         → OnOk result (IsTrue (state S.Store tx.old.conn.now).is_open) }
     ensures inside { HasCleanDisk (state S.Store tx.new.conn.now)
@@ -99,9 +96,7 @@ pub fn raise_next_document<S: Alter>(
 
 /// The row as it is shown.
 pub fn meta_rows<S: Alter>(conn: &mut Connection<S>) -> Result<Vec<Row>, Error>
-    requires autocommit { conn.old.in_transaction ≡ false }
-    ensures autocommit { conn.new.in_transaction ≡ false }
-    ensures rows { ReadsTables (λ s rows. rows.items
+    ensures rows { ReadsBy (λ s rows. rows.items
         ≡ meta_shown current_number s.next_in s.next_out ∷ []) (state S.Store conn.old) (state S.Store conn.new)
         result }
 {
@@ -128,9 +123,7 @@ fn next_of(rows: &[Row]) -> Result<NextNumbers, Error>
 
 /// The numbers that the next entries get.
 pub fn next_numbers<S: Alter>(conn: &mut Connection<S>) -> Result<NextNumbers, StoreFault>
-    requires autocommit { conn.old.in_transaction ≡ false }
-    ensures autocommit { conn.new.in_transaction ≡ false }
-    ensures numbers { ReadsTables (λ s next. AreNext next s) (state S.Store conn.old) (state S.Store conn.new) result }
+    ensures numbers { ReadsBy (λ s next. AreNext next s) (state S.Store conn.old) (state S.Store conn.new) result }
     ensures fault { IfErr result (λ f. may_come f ≡ true) }
     ensures row { IfErr result (λ f. comes_of (is_row_of table.Meta) f ≡ true) }
 {

@@ -8,7 +8,7 @@ ghost use Rattle.as2_exchange.specs.Progress.{same_state};
 ghost use Rattle.as2_mdn.specs.Details.{class_of};
 ghost use Rattle.as2_mdn.specs.declared.detail.Detail.{Detail as DetailOf};
 ghost use Rattle.as2_exchange.specs.declared.inbox.ReceiptStage.{ReceiptStage};
-ghost use Rattle.as2_store.specs.Calls.{ReadsTables};
+ghost use Rattle.as2_store.specs.Rounds.{ReadsBy};
 ghost use Rattle.as2_store.specs.Counting.{detail_row, details_of, is_awaiting, is_unsent, receipt_stage_row, receipt_stages_of};
 ghost use Rattle.as2_records.specs.Standing.{may_come};
 ghost use Rattle.as2_exchange.specs.declared.place.Table.TheVariants as table;
@@ -26,9 +26,7 @@ use std::alloc::Global;
 
 /// The rows of the details of all documents, in order of number.
 fn detail_rows<S: Alter>(conn: &mut Connection<S>) -> Result<Vec<Row>, Error>
-    requires autocommit { conn.old.in_transaction ≡ false }
-    ensures autocommit { conn.new.in_transaction ≡ false }
-    ensures rows { ReadsTables (λ s rows. rows.items
+    ensures rows { ReadsBy (λ s rows. rows.items
         ≡ map detail_row (details_of s)) (state S.Store conn.old) (state S.Store conn.new) result }
 {
     query_all(conn, "SELECT detail FROM outbox ORDER BY number", &[])
@@ -36,9 +34,7 @@ fn detail_rows<S: Alter>(conn: &mut Connection<S>) -> Result<Vec<Row>, Error>
 
 /// The rows of how the receipts for all received documents stand, in order of number.
 fn receipt_stage_rows<S: Alter>(conn: &mut Connection<S>) -> Result<Vec<Row>, Error>
-    requires autocommit { conn.old.in_transaction ≡ false }
-    ensures autocommit { conn.new.in_transaction ≡ false }
-    ensures rows { ReadsTables (λ s rows. rows.items
+    ensures rows { ReadsBy (λ s rows. rows.items
         ≡ map receipt_stage_row (receipt_stages_of s)) (state S.Store conn.old) (state S.Store conn.new) result }
 {
     query_all(conn, "SELECT mdn FROM inbox2 ORDER BY number", &[])
@@ -110,9 +106,7 @@ fn receipt_stages_in(alloc: Global, rows: &[Row]) -> Result<Vec<ReceiptStage>, S
 
 /// The details of all documents, in order of number.
 pub fn details<S: Alter>(conn: &mut Connection<S>, alloc: Global) -> Result<Vec<Detail>, StoreFault>
-    requires autocommit { conn.old.in_transaction ≡ false }
-    ensures autocommit { conn.new.in_transaction ≡ false }
-    ensures details { ReadsTables (λ s details. details.items
+    ensures details { ReadsBy (λ s details. details.items
         ≡ details_of s) (state S.Store conn.old) (state S.Store conn.new) result }
     ensures fault { IfErr result (λ f. may_come f ≡ true) }
     ensures row { IfErr result (λ f. comes_of (is_row_of table.Outbox) f ≡ true) }
@@ -126,9 +120,7 @@ pub fn receipt_stages<S: Alter>(
     conn: &mut Connection<S>,
     alloc: Global,
 ) -> Result<Vec<ReceiptStage>, StoreFault>
-    requires autocommit { conn.old.in_transaction ≡ false }
-    ensures autocommit { conn.new.in_transaction ≡ false }
-    ensures receipt_stages { ReadsTables (λ s receipt_stages. receipt_stages.items
+    ensures receipt_stages { ReadsBy (λ s receipt_stages. receipt_stages.items
         ≡ receipt_stages_of s) (state S.Store conn.old) (state S.Store conn.new) result }
     ensures fault { IfErr result (λ f. may_come f ≡ true) }
     ensures row { IfErr result (λ f. comes_of (is_row_of table.Inbox) f ≡ true) }

@@ -5,7 +5,7 @@ ghost use Rattle.std.specs.List.{slice_get};
 ghost use Rattle.sqlite.specs.Held.{state};
 ghost use Rattle.as2_rows.specs.Waiting.{kind_code};
 ghost use Rattle.as2_records.specs.Standing.{may_come};
-ghost use Rattle.as2_store.specs.Calls.{ReadsTables};
+ghost use Rattle.as2_store.specs.Rounds.{ReadsBy};
 ghost use Rattle.as2_store.specs.Discrepancies.{Compares, IsFirst, all_wanted, documents_wanted, owes_receipt, lower, number_told, receipts_wanted, rows_of, row_shown, wait_row, wait_told, is_waiting};
 ghost use Rattle.as2_exchange.specs.declared.place.Table.TheVariants as table;
 ghost use Rattle.as2_store.specs.Stands.{all_waiting, comes_of, is_row_of};
@@ -37,9 +37,7 @@ pub struct PlacedWaitingRow {
 
 /// The rows of what waits as they are shown, in order of place.
 fn shown_rows<S: Alter>(conn: &mut Connection<S>) -> Result<Vec<Row>, Error>
-    requires autocommit { conn.old.in_transaction ≡ false }
-    ensures autocommit { conn.new.in_transaction ≡ false }
-    ensures rows { ReadsTables (λ s rows. rows.items
+    ensures rows { ReadsBy (λ s rows. rows.items
         ≡ map row_shown (rows_of (all_waiting s))) (state S.Store conn.old) (state S.Store conn.new) result }
 {
     query_all(
@@ -85,9 +83,7 @@ fn kept_rows<S: Alter>(
     conn: &mut Connection<S>,
     alloc: Global,
 ) -> Result<Vec<PlacedWaitingRow>, StoreFault>
-    requires autocommit { conn.old.in_transaction ≡ false }
-    ensures autocommit { conn.new.in_transaction ≡ false }
-    ensures kept { ReadsTables (λ s kept. kept.items
+    ensures kept { ReadsBy (λ s kept. kept.items
         ≡ rows_of (all_waiting s)) (state S.Store conn.old) (state S.Store conn.new) result }
     ensures fault { IfErr result (λ f. may_come f ≡ true) }
     ensures row { IfErr result (λ f. comes_of (is_row_of table.Waiting) f ≡ true) }
@@ -291,9 +287,7 @@ pub fn discrepancy<S: Alter>(
     conn: &mut Connection<S>,
     alloc: Global,
 ) -> Result<Option<Discrepancy>, StoreFault>
-    requires autocommit { conn.old.in_transaction ≡ false }
-    ensures autocommit { conn.new.in_transaction ≡ false }
-    ensures none { ReadsTables (λ s found. found ≡ None) (state S.Store conn.old) (state S.Store conn.new) result }
+    ensures none { ReadsBy (λ s found. found ≡ None) (state S.Store conn.old) (state S.Store conn.new) result }
     ensures fault { IfErr result (λ f. may_come f ≡ true) }
 {
     let next = next_numbers(conn)?;

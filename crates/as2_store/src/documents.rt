@@ -6,7 +6,7 @@ ghost use Rattle.sqlite.specs.State.{HasCleanDisk};
 ghost use Rattle.as2_exchange.specs.State.{State};
 ghost use Rattle.as2_exchange.specs.declared.outbox.OutEntry.{OutEntry as Document};
 ghost use Rattle.as2_rows.specs.Rows.{out_shown};
-ghost use Rattle.as2_store.specs.Calls.{ReadsTables};
+ghost use Rattle.as2_store.specs.Rounds.{ReadsBy};
 ghost use Rattle.as2_store.specs.Finding.{evidence_at};
 ghost use Rattle.as2_exchange.specs.declared.place.Table.TheVariants as table;
 ghost use Rattle.as2_store.specs.Stands.{Rests, comes_of, is_in_outbox, is_row_at};
@@ -29,10 +29,8 @@ fn out_content<S: Alter>(
     alloc: Global,
     row: &OutRow,
 ) -> Result<Pieces, StoreFault>
-    requires autocommit { conn.old.in_transaction ≡ false }
     requires number { row.now.number < 2 ^ 63 }
-    ensures autocommit { conn.new.in_transaction ≡ false }
-    ensures content { ReadsTables (λ s content. (p : Document → Bool) (d : Document) → find p s.outbox ≡ Some d
+    ensures content { ReadsBy (λ s content. (p : Document → Bool) (d : Document) → find p s.outbox ≡ Some d
         → row.now.number ≡ d.number → content ≡ d.content) (state S.Store conn.old) (state S.Store conn.new) result }
     ensures fault { IfErr result (λ f. may_come f ≡ true) }
     ensures piece { IfErr result (λ f. comes_of (is_row_at table.OutboxPiece row.now.number) f ≡ true) }
@@ -52,9 +50,7 @@ pub fn evidence_in<S: Alter>(
     alloc: Global,
     number: u64,
 ) -> Result<Option<Evidence>, StoreFault>
-    requires autocommit { conn.old.in_transaction ≡ false }
-    ensures autocommit { conn.new.in_transaction ≡ false }
-    ensures evidence { ReadsTables (λ s evidence. evidence
+    ensures evidence { ReadsBy (λ s evidence. evidence
         ≡ evidence_at s number) (state S.Store conn.old) (state S.Store conn.new) result }
     ensures fault { IfErr result (λ f. may_come f ≡ true) }
     ensures receipt { IfErr result (λ f. comes_of (is_row_at table.Evidence number) f ≡ true) }
@@ -78,10 +74,8 @@ pub fn shown_document<S: Alter>(
     alloc: Global,
     rows: &[Row],
 ) -> Result<Option<OutEntry>, StoreFault>
-    requires autocommit { conn.old.in_transaction ≡ false }
     requires open { HasCleanDisk (state S.Store conn.old) → IsTrue (state S.Store conn.old).is_open }
-    ensures autocommit { conn.new.in_transaction ≡ false }
-    ensures found { ReadsTables (λ s found. (p : Document → Bool) → rows.now ≡ map out_shown (filter p s.outbox)
+    ensures found { ReadsBy (λ s found. (p : Document → Bool) → rows.now ≡ map out_shown (filter p s.outbox)
         → found ≡ find p s.outbox) (state S.Store conn.old) (state S.Store conn.new) result }
     ensures fault { IfErr result (λ f. may_come f ≡ true) }
     ensures row { IfErr result (λ f. comes_of is_in_outbox f ≡ true) }

@@ -6,7 +6,7 @@ ghost use Rattle.as2_exchange.specs.Due.{least};
 ghost use Rattle.as2_exchange.specs.State.{end_of_numbers};
 ghost use Rattle.as2_records.specs.Due.{numbers_behind};
 ghost use Rattle.as2_rows.specs.Waiting.{kind_code};
-ghost use Rattle.as2_store.specs.Calls.{ReadsTables};
+ghost use Rattle.as2_store.specs.Rounds.{ReadsBy};
 ghost use Rattle.as2_exchange.specs.declared.place.Table.TheVariants as table;
 ghost use Rattle.as2_records.specs.Standing.{may_come};
 ghost use Rattle.as2_store.specs.Due.{due_numbers, least_behind, number_rows};
@@ -26,9 +26,7 @@ fn any_due_rows<S: Alter>(
     wait: Wait,
     moment: Moment,
 ) -> Result<Vec<Row>, Error>
-    requires autocommit { conn.old.in_transaction ≡ false }
-    ensures autocommit { conn.new.in_transaction ≡ false }
-    ensures rows { ReadsTables (λ s rows. rows.items ≡ []
+    ensures rows { ReadsBy (λ s rows. rows.items ≡ []
         → due_numbers (kind_code wait) moment s ≡ []) (state S.Store conn.old) (state S.Store conn.new) result }
 {
     let kind = whole(wait.code());
@@ -59,9 +57,7 @@ fn least_due_rows<S: Alter>(
     moment: Moment,
     behind: Option<u64>,
 ) -> Result<Vec<Row>, Error>
-    requires autocommit { conn.old.in_transaction ≡ false }
-    ensures autocommit { conn.new.in_transaction ≡ false }
-    ensures rows { ReadsTables (λ s rows. rows.items
+    ensures rows { ReadsBy (λ s rows. rows.items
         ≡ number_rows (least (numbers_behind behind (due_numbers (kind_code wait) moment s)))) (state S.Store conn.old)
         (state S.Store conn.new) result }
 {
@@ -93,9 +89,7 @@ pub fn least_due<S: Alter>(
     moment: Moment,
     behind: Option<u64>,
 ) -> Result<Option<u64>, StoreFault>
-    requires autocommit { conn.old.in_transaction ≡ false }
-    ensures autocommit { conn.new.in_transaction ≡ false }
-    ensures due { ReadsTables (λ s number. number
+    ensures due { ReadsBy (λ s number. number
         ≡ least (numbers_behind behind (due_numbers (kind_code wait) moment s))) (state S.Store conn.old)
         (state S.Store conn.new) result }
     ensures fault { IfErr result (λ f. may_come f ≡ true) }

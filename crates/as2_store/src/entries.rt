@@ -6,7 +6,7 @@ ghost use Rattle.sqlite.specs.State.{HasCleanDisk};
 ghost use Rattle.as2_exchange.specs.State.{State};
 ghost use Rattle.as2_exchange.specs.declared.inbox.InEntry.{InEntry as Entry};
 ghost use Rattle.as2_rows.specs.Rows.{in_shown};
-ghost use Rattle.as2_store.specs.Calls.{ReadsTables};
+ghost use Rattle.as2_store.specs.Rounds.{ReadsBy};
 ghost use Rattle.as2_exchange.specs.declared.place.Table.TheVariants as table;
 ghost use Rattle.as2_store.specs.Stands.{Rests, comes_of, is_in_inbox, is_row_at};
 ghost use Rattle.as2_records.specs.Standing.{may_come};
@@ -26,10 +26,8 @@ fn in_content<S: Alter>(
     alloc: Global,
     row: &InRow,
 ) -> Result<Pieces, StoreFault>
-    requires autocommit { conn.old.in_transaction ≡ false }
     requires number { row.now.number < 2 ^ 63 }
-    ensures autocommit { conn.new.in_transaction ≡ false }
-    ensures content { ReadsTables (λ s content. (p : Entry → Bool) (e : Entry) → find p s.inbox ≡ Some e
+    ensures content { ReadsBy (λ s content. (p : Entry → Bool) (e : Entry) → find p s.inbox ≡ Some e
         → row.now.number ≡ e.number
         → content ≡ e.posted.content) (state S.Store conn.old) (state S.Store conn.new) result }
     ensures fault { IfErr result (λ f. may_come f ≡ true) }
@@ -50,10 +48,8 @@ pub fn shown_entry<S: Alter>(
     alloc: Global,
     rows: &[Row],
 ) -> Result<Option<InEntry>, StoreFault>
-    requires autocommit { conn.old.in_transaction ≡ false }
     requires open { HasCleanDisk (state S.Store conn.old) → IsTrue (state S.Store conn.old).is_open }
-    ensures autocommit { conn.new.in_transaction ≡ false }
-    ensures found { ReadsTables (λ s found. (p : Entry → Bool) → rows.now ≡ map in_shown (filter p s.inbox)
+    ensures found { ReadsBy (λ s found. (p : Entry → Bool) → rows.now ≡ map in_shown (filter p s.inbox)
         → found ≡ find p s.inbox) (state S.Store conn.old) (state S.Store conn.new) result }
     ensures fault { IfErr result (λ f. may_come f ≡ true) }
     ensures row { IfErr result (λ f. comes_of is_in_inbox f ≡ true) }

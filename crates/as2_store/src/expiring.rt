@@ -1,6 +1,6 @@
 //! Time passes: in one transaction each document whose wait is over passes into another detail, and it waits no more.
 
-ghost use Rattle.std.specs.Prelude.{◌≡◌, ◌<◌, ◌≤◌, ℕ, List, map, false, count_by, IsTrue, IfOk, OnOk};
+ghost use Rattle.std.specs.Prelude.{◌≡◌, ◌+◌, ◌<◌, ◌≤◌, ℕ, List, map, false, count_by, IsTrue, IfOk, OnOk};
 ghost use Rattle.std.specs.List.{AllByRecursion};
 ghost use Rattle.sqlite.specs.Held.{state};
 ghost use Rattle.sqlite.specs.State.{HasCleanDisk};
@@ -9,7 +9,8 @@ ghost use Rattle.as2_exchange.specs.State.{State, end_of_numbers};
 ghost use Rattle.as2_exchange.specs.declared.outbox.OutEntry.{OutEntry as Document};
 ghost use Rattle.as2_rows.specs.Rows.{out_row};
 ghost use Rattle.as2_rows.specs.Waiting.{WaitingRow, kind_code};
-ghost use Rattle.as2_store.specs.Calls.{IsInside, WritesTables};
+ghost use Rattle.as2_store.specs.Calls.{IsInside};
+ghost use Rattle.as2_store.specs.Rounds.{WritesBy};
 ghost use Rattle.as2_store.specs.Due.{due_numbers, number_row};
 ghost use Rattle.as2_store.specs.Expiring.{TicksTablesAs, HoldsDocuments, PassesInto, RewritesDocuments, over, passed_documents, passing_in, passing_one, without_due};
 ghost use Rattle.as2_records.specs.Expiring.{ticked_in};
@@ -21,18 +22,19 @@ use crate::numbers::{asked, whole};
 use as2_mdn::Detail;
 use as2_rows::{Wait, detail_code};
 use as2_text::Moment;
-use sqlite::{Alter, Connection, Error, ErrorCode, Row, Transaction, params};
+use sqlite::{Alter, Connection, Error, ErrorCode, Row, Savepoint, params};
 
 /// The rows of the numbers of what waits so and is due at this moment.
 fn due_rows<S: Alter>(
-    tx: &mut Transaction<'_, S>,
+    tx: &mut Savepoint<'_, S>,
     wait: Wait,
     moment: Moment,
 ) -> Result<Vec<Row>, Error>
     requires begun { HasCleanDisk (state S.Store tx.old.conn.now)
         → IsTrue (state S.Store tx.old.conn.now).in_transaction }
     ensures same_reference { tx.new.conn.ghost_name ≡ tx.old.conn.ghost_name }
-    ensures within { IsInside (state S.Store tx.old.conn.now) (state S.Store tx.new.conn.now) }
+    ensures place { tx.new.at ≡ tx.old.at }
+    ensures within { IsInside (tx.old.at + 1) (state S.Store tx.old.conn.now) (state S.Store tx.new.conn.now) }
     ensures open { HasCleanDisk (state S.Store tx.new.conn.now)
         → OnOk result (IsTrue (state S.Store tx.old.conn.now).is_open) }
     ensures inside { HasCleanDisk (state S.Store tx.new.conn.now)
@@ -51,10 +53,11 @@ fn due_rows<S: Alter>(
 }
 
 /// Sets the document of this number to have this detail, with nothing due.
-fn pass<S: Alter>(tx: &mut Transaction<'_, S>, number: u64, detail: Detail) -> Result<(), Error>
+fn pass<S: Alter>(tx: &mut Savepoint<'_, S>, number: u64, detail: Detail) -> Result<(), Error>
     requires { number ≤ end_of_numbers }
     ensures same_reference { tx.new.conn.ghost_name ≡ tx.old.conn.ghost_name }
-    ensures within { IsInside (state S.Store tx.old.conn.now) (state S.Store tx.new.conn.now) }
+    ensures place { tx.new.at ≡ tx.old.at }
+    ensures within { IsInside (tx.old.at + 1) (state S.Store tx.old.conn.now) (state S.Store tx.new.conn.now) }
     ensures inside { HasCleanDisk (state S.Store tx.new.conn.now)
         → OnOk result (IsTrue (state S.Store tx.new.conn.now).in_transaction) }
     ensures put { HasCleanDisk (state S.Store tx.new.conn.now)
@@ -71,13 +74,10 @@ fn pass<S: Alter>(tx: &mut Transaction<'_, S>, number: u64, detail: Detail) -> R
 }
 
 /// Sets each document whose number a row shows to have this detail, with nothing due.
-fn pass_each<S: Alter>(
-    tx: &mut Transaction<'_, S>,
-    rows: &[Row],
-    detail: Detail,
-) -> Result<(), Error>
+fn pass_each<S: Alter>(tx: &mut Savepoint<'_, S>, rows: &[Row], detail: Detail) -> Result<(), Error>
     ensures same_reference { tx.new.conn.ghost_name ≡ tx.old.conn.ghost_name }
-    ensures within { IsInside (state S.Store tx.old.conn.now) (state S.Store tx.new.conn.now) }
+    ensures place { tx.new.at ≡ tx.old.at }
+    ensures within { IsInside (tx.old.at + 1) (state S.Store tx.old.conn.now) (state S.Store tx.new.conn.now) }
     ensures put { HasCleanDisk (state S.Store tx.new.conn.now)
         → OnOk result ((way : Way) (ns : List ℕ) (ds : List Document) → AllByRecursion (λ n. n < end_of_numbers) ns
         → rows.now ≡ map number_row ns → HoldsDocuments way (state S.Store tx.old.conn.now).now ds
@@ -92,9 +92,10 @@ fn pass_each<S: Alter>(
 }
 
 /// Takes out the rows of what waits so and is due at this moment.
-fn take_due<S: Alter>(tx: &mut Transaction<'_, S>, wait: Wait, moment: Moment) -> Result<(), Error>
+fn take_due<S: Alter>(tx: &mut Savepoint<'_, S>, wait: Wait, moment: Moment) -> Result<(), Error>
     ensures same_reference { tx.new.conn.ghost_name ≡ tx.old.conn.ghost_name }
-    ensures within { IsInside (state S.Store tx.old.conn.now) (state S.Store tx.new.conn.now) }
+    ensures place { tx.new.at ≡ tx.old.at }
+    ensures within { IsInside (tx.old.at + 1) (state S.Store tx.old.conn.now) (state S.Store tx.new.conn.now) }
     ensures inside { HasCleanDisk (state S.Store tx.new.conn.now)
         → OnOk result (IsTrue (state S.Store tx.new.conn.now).in_transaction) }
     ensures put { HasCleanDisk (state S.Store tx.new.conn.now)
@@ -114,7 +115,7 @@ fn take_due<S: Alter>(tx: &mut Transaction<'_, S>, wait: Wait, moment: Moment) -
 /// Each document that waits so and is due at this moment passes into this detail, and waits no more. Answers how many there
 /// are.
 fn pass_due<S: Alter>(
-    tx: &mut Transaction<'_, S>,
+    tx: &mut Savepoint<'_, S>,
     wait: Wait,
     detail: Detail,
     moment: Moment,
@@ -123,7 +124,8 @@ fn pass_due<S: Alter>(
         → IsTrue (state S.Store tx.old.conn.now).in_transaction }
     requires passes { PassesInto (kind_code wait) detail }
     ensures same_reference { tx.new.conn.ghost_name ≡ tx.old.conn.ghost_name }
-    ensures within { IsInside (state S.Store tx.old.conn.now) (state S.Store tx.new.conn.now) }
+    ensures place { tx.new.at ≡ tx.old.at }
+    ensures within { IsInside (tx.old.at + 1) (state S.Store tx.old.conn.now) (state S.Store tx.new.conn.now) }
     ensures open { HasCleanDisk (state S.Store tx.new.conn.now)
         → OnOk result (IsTrue (state S.Store tx.old.conn.now).is_open) }
     ensures inside { HasCleanDisk (state S.Store tx.new.conn.now)
@@ -147,13 +149,11 @@ fn pass_due<S: Alter>(
 /// Each document whose receipt is overdue at this moment passes into `Overdue`, and each whose last try is into `TriesUsed`.
 /// Answers how many there are. Where there is none, nothing is written.
 pub fn expire<S: Alter>(conn: &mut Connection<S>, moment: Moment) -> Result<u64, Error>
-    requires autocommit { conn.old.in_transaction ≡ false }
-    ensures autocommit { conn.new.in_transaction ≡ false }
-    ensures passed { WritesTables (ticked_in moment) (state S.Store conn.old) (state S.Store conn.new) result }
+    ensures passed { WritesBy (ticked_in moment) (state S.Store conn.old) (state S.Store conn.new) result }
     ensures counted { HasCleanDisk (state S.Store conn.new)
         → IfOk result (TicksTablesAs moment (state S.Store conn.old)) }
 {
-    let mut tx = conn.transaction();
+    let mut tx = conn.savepoint()?;
     let overdue = pass_due(&mut tx, Wait::ToHear, Detail::Overdue, moment)?;
     let used_up = pass_due(&mut tx, Wait::ToEnd, Detail::TriesUsed, moment)?;
     let Some(count) = overdue.checked_add(used_up) else {

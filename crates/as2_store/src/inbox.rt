@@ -1,9 +1,10 @@
 //! The rows of the inbox, without the contents.
 
-ghost use Rattle.std.specs.Prelude.{◌≡◌, ◌<◌, ◌^◌, ◌==◌, false, map, filter, IsTrue, IfOk, OnOk};
+ghost use Rattle.std.specs.Prelude.{◌≡◌, ◌+◌, ◌<◌, ◌^◌, ◌==◌, false, map, filter, IsTrue, IfOk, OnOk};
 ghost use Rattle.sqlite.specs.Held.{state};
 ghost use Rattle.sqlite.specs.State.{HasCleanDisk};
-ghost use Rattle.as2_store.specs.Calls.{IsInside, ReadsTables};
+ghost use Rattle.as2_store.specs.Calls.{IsInside};
+ghost use Rattle.as2_store.specs.Rounds.{ReadsBy};
 ghost use Rattle.sqlite.specs.Tree.{put_row};
 ghost use Rattle.sql_tables.specs.Changes.{ChangesTable};
 ghost use Rattle.as2_rows.specs.Rows.{in_row, in_shown};
@@ -19,14 +20,15 @@ use as2_exchange::InEntry;
 use as2_rows::{
     attempt_code, digest_of, how_code, mic_of, outcome_code, receipt_stage_code, url_of,
 };
-use sqlite::{Alter, Connection, Error, Row, Transaction, params};
+use sqlite::{Alter, Connection, Error, Row, Savepoint, params};
 
 /// Puts in the row of an entry.
-pub fn put_in<S: Alter>(tx: &mut Transaction<'_, S>, entry: &InEntry) -> Result<(), Error>
+pub fn put_in<S: Alter>(tx: &mut Savepoint<'_, S>, entry: &InEntry) -> Result<(), Error>
     requires number { entry.now.number < 2 ^ 63 }
     requires fits { EntryFits entry.now.posted.content entry.now.tries entry.now.due }
     ensures same_reference { tx.new.conn.ghost_name ≡ tx.old.conn.ghost_name }
-    ensures within { IsInside (state S.Store tx.old.conn.now) (state S.Store tx.new.conn.now) }
+    ensures place { tx.new.at ≡ tx.old.at }
+    ensures within { IsInside (tx.old.at + 1) (state S.Store tx.old.conn.now) (state S.Store tx.new.conn.now) }
     ensures open { HasCleanDisk (state S.Store tx.new.conn.now)
         → OnOk result (IsTrue (state S.Store tx.old.conn.now).is_open) }
     ensures put { HasCleanDisk (state S.Store tx.new.conn.now)
@@ -73,9 +75,7 @@ pub fn rows_by_key<S: Alter>(
     receiver: &[u8],
     value: &[u8],
 ) -> Result<Vec<Row>, Error>
-    requires autocommit { conn.old.in_transaction ≡ false }
-    ensures autocommit { conn.new.in_transaction ≡ false }
-    ensures rows { ReadsTables (λ s rows. rows.items
+    ensures rows { ReadsBy (λ s rows. rows.items
         ≡ map in_shown (filter (λ e. has_key sender.now receiver.now value.now e.posted) s.inbox))
         (state S.Store conn.old) (state S.Store conn.new) result }
 {
@@ -88,9 +88,7 @@ pub fn rows_by_key<S: Alter>(
 
 /// The rows of the entry of this number.
 pub fn rows_by_number<S: Alter>(conn: &mut Connection<S>, number: u64) -> Result<Vec<Row>, Error>
-    requires autocommit { conn.old.in_transaction ≡ false }
-    ensures autocommit { conn.new.in_transaction ≡ false }
-    ensures rows { ReadsTables (λ s rows. rows.items
+    ensures rows { ReadsBy (λ s rows. rows.items
         ≡ map in_shown (filter (λ e. e.number == number) s.inbox)) (state S.Store conn.old) (state S.Store conn.new)
         result }
 {

@@ -25,6 +25,7 @@ mod owed;
 mod progress;
 mod reading;
 mod resending;
+mod rounds;
 mod settled;
 mod settling;
 mod store;

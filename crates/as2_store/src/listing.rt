@@ -6,6 +6,7 @@ ghost use Rattle.sqlite.specs.State.{HasCleanDisk};
 ghost use Rattle.sqlite.specs.Values.{bound};
 ghost use Rattle.as2_records.specs.Summaries.{in_summary};
 ghost use Rattle.as2_store.specs.Calls.{ReadsTables};
+ghost use Rattle.as2_store.specs.Rounds.{ReadsBy};
 ghost use Rattle.as2_store.specs.Listing.{detail_in, first_detail, last_detail, state_codes};
 ghost use Rattle.as2_records.specs.Listing.{listed_rows};
 ghost use Rattle.as2_records.specs.Standing.{may_come};
@@ -21,8 +22,11 @@ use sqlite::types::ValueRef;
 use sqlite::{Alter, Connection, params};
 use std::alloc::Global;
 
-/// The entries of the inbox in order of number, each with the length of its content in place of the content.
-pub fn entries<S: Alter>(conn: &mut Connection<S>, alloc: Global) -> Result<Vec<InRow>, StoreFault>
+/// The entries of the inbox, outside a round.
+fn entries_alone<S: Alter>(
+    conn: &mut Connection<S>,
+    alloc: Global,
+) -> Result<Vec<InRow>, StoreFault>
     requires autocommit { conn.old.in_transaction ≡ false }
     requires open { HasCleanDisk (state S.Store conn.old) → IsTrue (state S.Store conn.old).is_open }
     ensures autocommit { conn.new.in_transaction ≡ false }
@@ -56,6 +60,20 @@ pub fn entries<S: Alter>(conn: &mut Connection<S>, alloc: Global) -> Result<Vec<
     }
     // Not reached: each row has a number of its own below END_OF_NUMBERS, so that the rows end before the turns do.
     Err(StoreFault::Refused)
+}
+
+/// The entries of the inbox in order of number, each with the length of its content in place of the content. Refused within a round.
+pub fn entries<S: Alter>(conn: &mut Connection<S>, alloc: Global) -> Result<Vec<InRow>, StoreFault>
+    requires open { HasCleanDisk (state S.Store conn.old) → IsTrue (state S.Store conn.old).is_open }
+    ensures entries { ReadsBy (λ s entries. entries.items
+        ≡ map in_summary s.inbox) (state S.Store conn.old) (state S.Store conn.new) result }
+    ensures fault { IfErr result (λ f. may_come f ≡ true) }
+    ensures row { IfErr result (λ f. comes_of (is_row_of table.Inbox) f ≡ true) }
+{
+    if !conn.is_autocommit() {
+        return Err(StoreFault::Refused);
+    }
+    entries_alone(conn, alloc)
 }
 
 /// The first and the last of the details of a state, or of all.
@@ -143,20 +161,21 @@ fn documents_between<S: Alter>(
 }
 
 /// The documents of that state, or all, in order of number, each with the length of its content in place of the content,
-/// and without its evidence.
+/// and without its evidence. Refused within a round.
 pub fn documents<S: Alter>(
     conn: &mut Connection<S>,
     alloc: Global,
     wanted: Option<DetailClass>,
 ) -> Result<Vec<OutRow>, StoreFault>
-    requires autocommit { conn.old.in_transaction ≡ false }
     requires open { HasCleanDisk (state S.Store conn.old) → IsTrue (state S.Store conn.old).is_open }
-    ensures autocommit { conn.new.in_transaction ≡ false }
-    ensures documents { ReadsTables (λ s documents. documents.items
+    ensures documents { ReadsBy (λ s documents. documents.items
         ≡ listed_rows wanted s) (state S.Store conn.old) (state S.Store conn.new) result }
     ensures fault { IfErr result (λ f. may_come f ≡ true) }
     ensures row { IfErr result (λ f. comes_of (is_row_of table.Outbox) f ≡ true) }
 {
+    if !conn.is_autocommit() {
+        return Err(StoreFault::Refused);
+    }
     let (first, last) = details_of(wanted);
     documents_between(
         conn,

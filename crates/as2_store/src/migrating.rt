@@ -28,7 +28,7 @@ use sqlite::{Alter, Connection, Error, Row, Transaction, params};
 /// Makes the later tables of the inbox beside those of the first version.
 fn make_inbox_beside<S: Alter>(tx: &mut Transaction<'_, S>) -> Result<(), Error>
     ensures same_reference { tx.new.conn.ghost_name ≡ tx.old.conn.ghost_name }
-    ensures within { IsInside (state S.Store tx.old.conn.now) (state S.Store tx.new.conn.now) }
+    ensures within { IsInside 0 (state S.Store tx.old.conn.now) (state S.Store tx.new.conn.now) }
     ensures made { HasCleanDisk (state S.Store tx.new.conn.now)
         → OnOk result ((s : State) → Stands VersionOne (state S.Store tx.old.conn.now).now s
         → IsInboxBeside (state S.Store tx.new.conn.now).now s) }
@@ -47,7 +47,7 @@ fn make_inbox_beside<S: Alter>(tx: &mut Transaction<'_, S>) -> Result<(), Error>
 /// Makes all tables of the later versions beside those of the first.
 fn make_beside<S: Alter>(tx: &mut Transaction<'_, S>) -> Result<(), Error>
     ensures same_reference { tx.new.conn.ghost_name ≡ tx.old.conn.ghost_name }
-    ensures within { IsInside (state S.Store tx.old.conn.now) (state S.Store tx.new.conn.now) }
+    ensures within { IsInside 0 (state S.Store tx.old.conn.now) (state S.Store tx.new.conn.now) }
     ensures made { HasCleanDisk (state S.Store tx.new.conn.now)
         → OnOk result ((s : State) → Stands VersionOne (state S.Store tx.old.conn.now).now s
         → IsBeside (state S.Store tx.new.conn.now).now s) }
@@ -64,7 +64,7 @@ fn make_beside<S: Alter>(tx: &mut Transaction<'_, S>) -> Result<(), Error>
 /// Copies all entries of the inbox to the later table of them, without their contents.
 fn copy_inbox<S: Alter>(tx: &mut Transaction<'_, S>) -> Result<(), Error>
     ensures same_reference { tx.new.conn.ghost_name ≡ tx.old.conn.ghost_name }
-    ensures within { IsInside (state S.Store tx.old.conn.now) (state S.Store tx.new.conn.now) }
+    ensures within { IsInside 0 (state S.Store tx.old.conn.now) (state S.Store tx.new.conn.now) }
     ensures copied { HasCleanDisk (state S.Store tx.new.conn.now)
         → OnOk result ((s : State) → IsCounted s → IsBeside (state S.Store tx.old.conn.now).now s
         → AreShared (state S.Store tx.new.conn.now).now s) }
@@ -80,7 +80,7 @@ fn copy_inbox<S: Alter>(tx: &mut Transaction<'_, S>) -> Result<(), Error>
 fn run_below<S: Alter>(tx: &mut Transaction<'_, S>, text: &str, below: u64) -> Result<(), Error>
     requires { below < 2 ^ 63 }
     ensures same_reference { tx.new.conn.ghost_name ≡ tx.old.conn.ghost_name }
-    ensures within { IsInside (state S.Store tx.old.conn.now) (state S.Store tx.new.conn.now) }
+    ensures within { IsInside 0 (state S.Store tx.old.conn.now) (state S.Store tx.new.conn.now) }
     ensures ran { HasCleanDisk (state S.Store tx.new.conn.now)
         → OnOk result ((count : ℕ)
         × Executes text.now (whole below ∷ []) (state S.Store tx.old.conn.now) (state S.Store tx.new.conn.now)
@@ -95,7 +95,7 @@ fn run_below<S: Alter>(tx: &mut Transaction<'_, S>, text: &str, below: u64) -> R
 fn move_below<S: Alter>(tx: &mut Transaction<'_, S>, below: u64) -> Result<(), Error>
     requires { below < 2 ^ 63 }
     ensures same_reference { tx.new.conn.ghost_name ≡ tx.old.conn.ghost_name }
-    ensures within { IsInside (state S.Store tx.old.conn.now) (state S.Store tx.new.conn.now) }
+    ensures within { IsInside 0 (state S.Store tx.old.conn.now) (state S.Store tx.new.conn.now) }
     ensures moved { HasCleanDisk (state S.Store tx.new.conn.now)
         → OnOk result ((s : State) → AreShared (state S.Store tx.old.conn.now).now s
         → AreShared (state S.Store tx.new.conn.now).now s) }
@@ -112,7 +112,7 @@ fn move_below<S: Alter>(tx: &mut Transaction<'_, S>, below: u64) -> Result<(), E
 /// Moves the contents that are left to the later table.
 fn move_rest<S: Alter>(tx: &mut Transaction<'_, S>) -> Result<(), Error>
     ensures same_reference { tx.new.conn.ghost_name ≡ tx.old.conn.ghost_name }
-    ensures within { IsInside (state S.Store tx.old.conn.now) (state S.Store tx.new.conn.now) }
+    ensures within { IsInside 0 (state S.Store tx.old.conn.now) (state S.Store tx.new.conn.now) }
     ensures moved { HasCleanDisk (state S.Store tx.new.conn.now)
         → OnOk result ((s : State) → AreShared (state S.Store tx.old.conn.now).now s
         → IsCopied (state S.Store tx.new.conn.now).now s) }
@@ -129,7 +129,7 @@ fn move_rest<S: Alter>(tx: &mut Transaction<'_, S>) -> Result<(), Error>
 fn move_contents<S: Alter>(tx: &mut Transaction<'_, S>, next: u64) -> Result<(), Error>
     requires { next < 2 ^ 63 }
     ensures same_reference { tx.new.conn.ghost_name ≡ tx.old.conn.ghost_name }
-    ensures within { IsInside (state S.Store tx.old.conn.now) (state S.Store tx.new.conn.now) }
+    ensures within { IsInside 0 (state S.Store tx.old.conn.now) (state S.Store tx.new.conn.now) }
     ensures moved { HasCleanDisk (state S.Store tx.new.conn.now)
         → OnOk result ((s : State) → AreShared (state S.Store tx.old.conn.now).now s
         → IsCopied (state S.Store tx.new.conn.now).now s) }
@@ -144,7 +144,7 @@ fn move_contents<S: Alter>(tx: &mut Transaction<'_, S>, next: u64) -> Result<(),
 /// Empties the table of the entries, which were copied.
 fn empty_first<S: Alter>(tx: &mut Transaction<'_, S>) -> Result<(), Error>
     ensures same_reference { tx.new.conn.ghost_name ≡ tx.old.conn.ghost_name }
-    ensures within { IsInside (state S.Store tx.old.conn.now) (state S.Store tx.new.conn.now) }
+    ensures within { IsInside 0 (state S.Store tx.old.conn.now) (state S.Store tx.new.conn.now) }
     ensures emptied { HasCleanDisk (state S.Store tx.new.conn.now)
         → OnOk result ((s : State) → IsCounted s → IsCopied (state S.Store tx.old.conn.now).now s
         → IsMoved (state S.Store tx.new.conn.now).now s) }
@@ -157,7 +157,7 @@ fn empty_first<S: Alter>(tx: &mut Transaction<'_, S>) -> Result<(), Error>
 fn move_first<S: Alter>(tx: &mut Transaction<'_, S>, next: u64) -> Result<(), Error>
     requires { next < 2 ^ 63 }
     ensures same_reference { tx.new.conn.ghost_name ≡ tx.old.conn.ghost_name }
-    ensures within { IsInside (state S.Store tx.old.conn.now) (state S.Store tx.new.conn.now) }
+    ensures within { IsInside 0 (state S.Store tx.old.conn.now) (state S.Store tx.new.conn.now) }
     ensures moved { HasCleanDisk (state S.Store tx.new.conn.now)
         → OnOk result ((s : State) → Stands VersionOne (state S.Store tx.old.conn.now).now s → next ≡ s.next_in
         → StandsBut 1 Migrated (state S.Store tx.new.conn.now).now (migrated_state s)) }
@@ -173,7 +173,7 @@ fn move_first<S: Alter>(tx: &mut Transaction<'_, S>, next: u64) -> Result<(), Er
 /// The same for tables of the second version.
 fn move_second<S: Alter>(tx: &mut Transaction<'_, S>) -> Result<(), Error>
     ensures same_reference { tx.new.conn.ghost_name ≡ tx.old.conn.ghost_name }
-    ensures within { IsInside (state S.Store tx.old.conn.now) (state S.Store tx.new.conn.now) }
+    ensures within { IsInside 0 (state S.Store tx.old.conn.now) (state S.Store tx.new.conn.now) }
     ensures moved { HasCleanDisk (state S.Store tx.new.conn.now)
         → OnOk result ((way : Way) (s : State) → Stands (VersionTwo way) (state S.Store tx.old.conn.now).now s
         → StandsBut 2 way (state S.Store tx.new.conn.now).now s) }
@@ -188,7 +188,7 @@ fn move_second<S: Alter>(tx: &mut Transaction<'_, S>) -> Result<(), Error>
 /// Says the current version in `meta`.
 fn raise_version<S: Alter>(tx: &mut Transaction<'_, S>) -> Result<(), Error>
     ensures same_reference { tx.new.conn.ghost_name ≡ tx.old.conn.ghost_name }
-    ensures within { IsInside (state S.Store tx.old.conn.now) (state S.Store tx.new.conn.now) }
+    ensures within { IsInside 0 (state S.Store tx.old.conn.now) (state S.Store tx.new.conn.now) }
     ensures inside { HasCleanDisk (state S.Store tx.new.conn.now)
         → OnOk result (IsTrue (state S.Store tx.new.conn.now).in_transaction) }
     ensures raised { HasCleanDisk (state S.Store tx.new.conn.now)
@@ -252,7 +252,7 @@ fn told(rows: &[Row]) -> Result<Earlier, StoreFault>
 fn move_to<S: Alter>(tx: &mut Transaction<'_, S>, earlier: Earlier) -> Result<(), Error>
     requires { earlier.next < 2 ^ 63 }
     ensures same_reference { tx.new.conn.ghost_name ≡ tx.old.conn.ghost_name }
-    ensures within { IsInside (state S.Store tx.old.conn.now) (state S.Store tx.new.conn.now) }
+    ensures within { IsInside 0 (state S.Store tx.old.conn.now) (state S.Store tx.new.conn.now) }
     ensures moved { HasCleanDisk (state S.Store tx.new.conn.now)
         → OnOk result ((layout : Layout) (s : State) → Stands layout (state S.Store tx.old.conn.now).now s
         → number_of layout ≡ (if earlier.is_first then 1 else 2) → earlier.next ≡ s.next_in
@@ -270,7 +270,7 @@ fn move_to<S: Alter>(tx: &mut Transaction<'_, S>, earlier: Earlier) -> Result<()
 fn move_tables<S: Alter>(tx: &mut Transaction<'_, S>, earlier: Earlier) -> Result<(), Error>
     requires { earlier.next < 2 ^ 63 }
     ensures same_reference { tx.new.conn.ghost_name ≡ tx.old.conn.ghost_name }
-    ensures within { IsInside (state S.Store tx.old.conn.now) (state S.Store tx.new.conn.now) }
+    ensures within { IsInside 0 (state S.Store tx.old.conn.now) (state S.Store tx.new.conn.now) }
     ensures inside { HasCleanDisk (state S.Store tx.new.conn.now)
         → OnOk result (IsTrue (state S.Store tx.new.conn.now).in_transaction) }
     ensures moved { HasCleanDisk (state S.Store tx.new.conn.now)

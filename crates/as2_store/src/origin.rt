@@ -5,7 +5,8 @@ ghost use Rattle.sqlite.specs.Held.{state};
 ghost use Rattle.sqlite.specs.State.{HasCleanDisk};
 ghost use Rattle.sql_tables.specs.Changes.{ChangesTable};
 ghost use Rattle.as2_exchange.specs.State.{State, origin_of};
-ghost use Rattle.as2_store.specs.Calls.{IsInside, ReadsTables};
+ghost use Rattle.as2_store.specs.Calls.{IsInside};
+ghost use Rattle.as2_store.specs.Rounds.{ReadsBy};
 ghost use Rattle.as2_store.specs.Due.{number_row};
 ghost use Rattle.as2_store.specs.Stands.{origin_row};
 ghost use Rattle.as2_store.specs.Tables.{Way, store_schema, origin_tree};
@@ -18,7 +19,7 @@ use sqlite::{Alter, Connection, Error, Row, Transaction, params};
 pub fn put_origin<S: Alter>(tx: &mut Transaction<'_, S>, number: u64) -> Result<(), Error>
     requires { number < 2 ^ 63 }
     ensures same_reference { tx.new.conn.ghost_name ≡ tx.old.conn.ghost_name }
-    ensures within { IsInside (state S.Store tx.old.conn.now) (state S.Store tx.new.conn.now) }
+    ensures within { IsInside 0 (state S.Store tx.old.conn.now) (state S.Store tx.new.conn.now) }
     ensures inside { HasCleanDisk (state S.Store tx.new.conn.now)
         → OnOk result (IsTrue (state S.Store tx.new.conn.now).in_transaction) }
     ensures put { HasCleanDisk (state S.Store tx.new.conn.now)
@@ -35,9 +36,7 @@ pub fn put_origin<S: Alter>(tx: &mut Transaction<'_, S>, number: u64) -> Result<
 
 /// The row as it is shown.
 pub fn origin_rows<S: Alter>(conn: &mut Connection<S>) -> Result<Vec<Row>, Error>
-    requires autocommit { conn.old.in_transaction ≡ false }
-    ensures autocommit { conn.new.in_transaction ≡ false }
-    ensures rows { ReadsTables (λ s rows. rows.items
+    ensures rows { ReadsBy (λ s rows. rows.items
         ≡ number_row (origin_of s.version) ∷ []) (state S.Store conn.old) (state S.Store conn.new) result }
 {
     query_all(conn, "SELECT number FROM origin", &[])

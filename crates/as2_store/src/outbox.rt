@@ -1,10 +1,11 @@
 //! The rows of the outbox and of its evidence, without the contents.
 
-ghost use Rattle.std.specs.Prelude.{◌≡◌, ◌==◌, ◌<◌, ◌^◌, [], ◌∷◌, true, false, map, filter, IsTrue, IfOk, OnOk};
+ghost use Rattle.std.specs.Prelude.{◌≡◌, ◌+◌, ◌==◌, ◌<◌, ◌^◌, [], ◌∷◌, true, false, map, filter, IsTrue, IfOk, OnOk};
 ghost use Rattle.sqlite.specs.Held.{state};
 ghost use Rattle.sqlite.specs.Edit.{are_fresh};
 ghost use Rattle.sqlite.specs.State.{HasCleanDisk};
-ghost use Rattle.as2_store.specs.Calls.{IsInside, ReadsTables};
+ghost use Rattle.as2_store.specs.Calls.{IsInside};
+ghost use Rattle.as2_store.specs.Rounds.{ReadsBy};
 ghost use Rattle.sqlite.specs.Tree.{put_row};
 ghost use Rattle.sql_tables.specs.Changes.{ChangesTable};
 ghost use Rattle.as2_exchange.specs.State.{State};
@@ -18,14 +19,15 @@ use crate::numbers::{asked, whole, whole_or_none};
 use crate::reading::query_all;
 use as2_exchange::{Evidence, OutEntry};
 use as2_rows::{attempt_code, detail_code};
-use sqlite::{Alter, Connection, Error, Row, Transaction, params};
+use sqlite::{Alter, Connection, Error, Row, Savepoint, params};
 
 /// Puts in the row of a document.
-pub fn put_out<S: Alter>(tx: &mut Transaction<'_, S>, entry: &OutEntry) -> Result<(), Error>
+pub fn put_out<S: Alter>(tx: &mut Savepoint<'_, S>, entry: &OutEntry) -> Result<(), Error>
     requires number { entry.now.number < 2 ^ 63 }
     requires fits { EntryFits entry.now.content entry.now.tries entry.now.due }
     ensures same_reference { tx.new.conn.ghost_name ≡ tx.old.conn.ghost_name }
-    ensures within { IsInside (state S.Store tx.old.conn.now) (state S.Store tx.new.conn.now) }
+    ensures place { tx.new.at ≡ tx.old.at }
+    ensures within { IsInside (tx.old.at + 1) (state S.Store tx.old.conn.now) (state S.Store tx.new.conn.now) }
     ensures open { HasCleanDisk (state S.Store tx.new.conn.now)
         → OnOk result (IsTrue (state S.Store tx.old.conn.now).is_open) }
     ensures put { HasCleanDisk (state S.Store tx.new.conn.now)
@@ -59,9 +61,7 @@ pub fn put_out<S: Alter>(tx: &mut Transaction<'_, S>, entry: &OutEntry) -> Resul
 
 /// The rows of the documents with an identifier of this value.
 pub fn rows_by_id<S: Alter>(conn: &mut Connection<S>, value: &[u8]) -> Result<Vec<Row>, Error>
-    requires autocommit { conn.old.in_transaction ≡ false }
-    ensures autocommit { conn.new.in_transaction ≡ false }
-    ensures rows { ReadsTables (λ s rows. rows.items
+    ensures rows { ReadsBy (λ s rows. rows.items
         ≡ map out_shown (filter (has_id value.now) s.outbox)) (state S.Store conn.old) (state S.Store conn.new) result }
 {
     query_all(
@@ -73,9 +73,7 @@ pub fn rows_by_id<S: Alter>(conn: &mut Connection<S>, value: &[u8]) -> Result<Ve
 
 /// The rows of the document of this number.
 pub fn rows_by_number<S: Alter>(conn: &mut Connection<S>, number: u64) -> Result<Vec<Row>, Error>
-    requires autocommit { conn.old.in_transaction ≡ false }
-    ensures autocommit { conn.new.in_transaction ≡ false }
-    ensures rows { ReadsTables (λ s rows. rows.items
+    ensures rows { ReadsBy (λ s rows. rows.items
         ≡ map out_shown (filter (λ d. d.number == number) s.outbox)) (state S.Store conn.old) (state S.Store conn.new)
         result }
 {
@@ -90,9 +88,7 @@ pub fn rows_by_number<S: Alter>(conn: &mut Connection<S>, number: u64) -> Result
 
 /// The rows of the evidence of the document of this number.
 pub fn evidence_rows<S: Alter>(conn: &mut Connection<S>, number: u64) -> Result<Vec<Row>, Error>
-    requires autocommit { conn.old.in_transaction ≡ false }
-    ensures autocommit { conn.new.in_transaction ≡ false }
-    ensures rows { ReadsTables (λ s rows. rows.items
+    ensures rows { ReadsBy (λ s rows. rows.items
         ≡ shown_evidence number (evidence_at s number)) (state S.Store conn.old) (state S.Store conn.new) result }
 {
     let wanted = asked(number);
@@ -106,7 +102,7 @@ pub fn evidence_rows<S: Alter>(conn: &mut Connection<S>, number: u64) -> Result<
 
 /// Puts in the row of the evidence of the document of this number; `body` is its report in one piece.
 pub fn put_evidence<S: Alter>(
-    tx: &mut Transaction<'_, S>,
+    tx: &mut Savepoint<'_, S>,
     number: u64,
     evidence: &Evidence,
     body: &[u8],
@@ -114,7 +110,8 @@ pub fn put_evidence<S: Alter>(
     requires number { number < 2 ^ 63 }
     requires body { body.now ≡ evidence.now.body }
     ensures same_reference { tx.new.conn.ghost_name ≡ tx.old.conn.ghost_name }
-    ensures within { IsInside (state S.Store tx.old.conn.now) (state S.Store tx.new.conn.now) }
+    ensures place { tx.new.at ≡ tx.old.at }
+    ensures within { IsInside (tx.old.at + 1) (state S.Store tx.old.conn.now) (state S.Store tx.new.conn.now) }
     ensures put { HasCleanDisk (state S.Store tx.new.conn.now)
         → OnOk result ((way : Way) → (state S.Store tx.old.conn.now).now.schema ≡ store_schema way
         → ChangesTable (state S.Store tx.old.conn.now) (state S.Store tx.new.conn.now) (store_schema way) evidence_tree

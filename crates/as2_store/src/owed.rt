@@ -1,9 +1,10 @@
 //! A receipt that is owed comes further: in one transaction its entry changes, and it waits again, or no more.
 
-ghost use Rattle.std.specs.Prelude.{◌≡◌, ◌==◌, ◌≤◌, ◌<◌, ◌^◌, false, map, filter, length, IsTrue, IfOk, OnOk};
+ghost use Rattle.std.specs.Prelude.{◌≡◌, ◌+◌, ◌==◌, ◌≤◌, ◌<◌, ◌^◌, false, map, filter, length, IsTrue, IfOk, OnOk};
 ghost use Rattle.sqlite.specs.Held.{state};
 ghost use Rattle.sqlite.specs.State.{HasCleanDisk};
-ghost use Rattle.as2_store.specs.Calls.{IsInside, WritesTables};
+ghost use Rattle.as2_store.specs.Calls.{IsInside};
+ghost use Rattle.as2_store.specs.Rounds.{WritesBy};
 ghost use Rattle.sql_tables.specs.Changes.{ChangesTable};
 ghost use Rattle.as2_exchange.specs.State.{State, change_received};
 ghost use Rattle.as2_rows.specs.Rows.{in_row};
@@ -16,17 +17,18 @@ use crate::numbers::{asked, whole, whole_or_none};
 use crate::waiting::answer_for;
 use as2_records::ReceiptProgress;
 use as2_rows::{attempt_code, receipt_stage_code};
-use sqlite::{Alter, Connection, Error, Transaction, params};
+use sqlite::{Alter, Connection, Error, Savepoint, params};
 
 /// Sets how far the receipt of the entry of this number has come, and answers how many entries have the number.
 fn set_receipt_row<S: Alter>(
-    tx: &mut Transaction<'_, S>,
+    tx: &mut Savepoint<'_, S>,
     number: u64,
     progress: ReceiptProgress,
 ) -> Result<usize, Error>
     requires fits { FitsReceipt progress }
     ensures same_reference { tx.new.conn.ghost_name ≡ tx.old.conn.ghost_name }
-    ensures within { IsInside (state S.Store tx.old.conn.now) (state S.Store tx.new.conn.now) }
+    ensures place { tx.new.at ≡ tx.old.at }
+    ensures within { IsInside (tx.old.at + 1) (state S.Store tx.old.conn.now) (state S.Store tx.new.conn.now) }
     ensures open { HasCleanDisk (state S.Store tx.new.conn.now)
         → OnOk result (IsTrue (state S.Store tx.old.conn.now).is_open) }
     ensures inside { HasCleanDisk (state S.Store tx.new.conn.now)
@@ -61,13 +63,11 @@ pub fn set<S: Alter>(
     number: u64,
     progress: ReceiptProgress,
 ) -> Result<(), Error>
-    requires autocommit { conn.old.in_transaction ≡ false }
     requires fits { FitsReceipt progress }
-    ensures autocommit { conn.new.in_transaction ≡ false }
-    ensures set { WritesTables (set_receipt_in number progress) (state S.Store conn.old) (state S.Store conn.new)
+    ensures set { WritesBy (set_receipt_in number progress) (state S.Store conn.old) (state S.Store conn.new)
         result }
 {
-    let mut tx = conn.transaction();
+    let mut tx = conn.savepoint()?;
     if set_receipt_row(&mut tx, number, progress)? == 0 {
         tx.commit()?;
         return Ok(());

@@ -1,9 +1,10 @@
 //! A document comes further: in one transaction its row changes, and it waits for something else.
 
-ghost use Rattle.std.specs.Prelude.{◌≡◌, ◌==◌, ◌≤◌, ◌<◌, ◌^◌, false, map, filter, length, IsTrue, IfOk, OnOk};
+ghost use Rattle.std.specs.Prelude.{◌≡◌, ◌+◌, ◌==◌, ◌≤◌, ◌<◌, ◌^◌, false, map, filter, length, IsTrue, IfOk, OnOk};
 ghost use Rattle.sqlite.specs.Held.{state};
 ghost use Rattle.sqlite.specs.State.{HasCleanDisk};
-ghost use Rattle.as2_store.specs.Calls.{IsInside, WritesTables};
+ghost use Rattle.as2_store.specs.Calls.{IsInside};
+ghost use Rattle.as2_store.specs.Rounds.{WritesBy};
 ghost use Rattle.sql_tables.specs.Changes.{ChangesTable};
 ghost use Rattle.as2_exchange.specs.State.{State, change_document};
 ghost use Rattle.as2_rows.specs.Rows.{out_row};
@@ -17,18 +18,19 @@ use crate::resending::ready;
 use crate::waiting::wait_for;
 use as2_records::Progress;
 use as2_rows::{attempt_code, detail_code};
-use sqlite::{Alter, Connection, Error, Transaction, params};
+use sqlite::{Alter, Connection, Error, Savepoint, params};
 
 /// Sets how far the document of this number has come, and answers how many documents have the number.
 fn set_progress<S: Alter>(
-    tx: &mut Transaction<'_, S>,
+    tx: &mut Savepoint<'_, S>,
     number: u64,
     progress: Progress,
 ) -> Result<usize, Error>
     requires number { number < 2 ^ 63 }
     requires fits { FitsProgress progress }
     ensures same_reference { tx.new.conn.ghost_name ≡ tx.old.conn.ghost_name }
-    ensures within { IsInside (state S.Store tx.old.conn.now) (state S.Store tx.new.conn.now) }
+    ensures place { tx.new.at ≡ tx.old.at }
+    ensures within { IsInside (tx.old.at + 1) (state S.Store tx.old.conn.now) (state S.Store tx.new.conn.now) }
     ensures open { HasCleanDisk (state S.Store tx.new.conn.now)
         → OnOk result (IsTrue (state S.Store tx.old.conn.now).is_open) }
     ensures put { HasCleanDisk (state S.Store tx.new.conn.now)
@@ -55,13 +57,11 @@ fn set_progress<S: Alter>(
 
 /// Sets how far the document of this number has come. No row is said to have the number of no document.
 pub fn set<S: Alter>(conn: &mut Connection<S>, number: u64, progress: Progress) -> Result<(), Error>
-    requires autocommit { conn.old.in_transaction ≡ false }
     requires fits { FitsProgress progress }
-    ensures autocommit { conn.new.in_transaction ≡ false }
-    ensures set { WritesTables (set_out_in number progress) (state S.Store conn.old) (state S.Store conn.new) result }
+    ensures set { WritesBy (set_out_in number progress) (state S.Store conn.old) (state S.Store conn.new) result }
 {
     let wanted = asked(number);
-    let mut tx = conn.transaction();
+    let mut tx = conn.savepoint()?;
     ready(&mut tx, wanted, progress.tries)?;
     if set_progress(&mut tx, wanted, progress)? == 0 {
         return Err(Error::QueryReturnedNoRows);

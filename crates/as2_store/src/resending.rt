@@ -1,13 +1,14 @@
 //! Documents that were begun and are to be sent anew: each has a row of its number.
 
-ghost use Rattle.std.specs.Prelude.{◌≡◌, ◌==◌, ◌<◌, ◌^◌, ◌||◌, nat_le, not, List, ℕ, Bool, Some, true, false, find, map, filter, IsTrue, IfOk, IfErr, OnOk};
+ghost use Rattle.std.specs.Prelude.{◌≡◌, ◌+◌, ◌==◌, ◌<◌, ◌^◌, ◌||◌, nat_le, not, List, ℕ, Bool, Some, true, false, find, map, filter, IsTrue, IfOk, IfErr, OnOk};
 ghost use Rattle.sqlite.specs.Held.{state};
 ghost use Rattle.sqlite.specs.State.{HasCleanDisk};
 ghost use Rattle.sqlite.specs.Tree.{put_row};
 ghost use Rattle.sql_tables.specs.Changes.{ChangesTable};
 ghost use Rattle.as2_exchange.specs.State.{State};
 ghost use Rattle.as2_exchange.specs.declared.outbox.OutEntry.{OutEntry as Document};
-ghost use Rattle.as2_store.specs.Calls.{IsInside, ReadsTables};
+ghost use Rattle.as2_store.specs.Calls.{IsInside};
+ghost use Rattle.as2_store.specs.Rounds.{ReadsBy};
 ghost use Rattle.as2_store.specs.Due.{number_row};
 ghost use Rattle.as2_store.specs.Resending.{HoldsResent, IsReady, has_row, tried_numbers};
 ghost use Rattle.as2_exchange.specs.declared.place.RowPlace.{RowPlace as Place};
@@ -20,15 +21,16 @@ use crate::numbers::whole;
 use crate::reading::query_all;
 use as2_exchange::StoreFault;
 use as2_records::OutRow;
-use sqlite::{Alter, Connection, Error, Row, Transaction, params};
+use sqlite::{Alter, Connection, Error, Row, Savepoint, params};
 
 /// The rows of the number of the document of this number, where it was tried since it was last queued.
-fn tried_rows<S: Alter>(tx: &mut Transaction<'_, S>, number: u64) -> Result<Vec<Row>, Error>
+fn tried_rows<S: Alter>(tx: &mut Savepoint<'_, S>, number: u64) -> Result<Vec<Row>, Error>
     requires number { number < 2 ^ 63 }
     requires begun { HasCleanDisk (state S.Store tx.old.conn.now)
         → IsTrue (state S.Store tx.old.conn.now).in_transaction }
     ensures same_reference { tx.new.conn.ghost_name ≡ tx.old.conn.ghost_name }
-    ensures within { IsInside (state S.Store tx.old.conn.now) (state S.Store tx.new.conn.now) }
+    ensures place { tx.new.at ≡ tx.old.at }
+    ensures within { IsInside (tx.old.at + 1) (state S.Store tx.old.conn.now) (state S.Store tx.new.conn.now) }
     ensures rows { HasCleanDisk (state S.Store tx.new.conn.now)
         → IfOk result (λ rows. (way : Way) (s : State) → Stands (VersionThree way) (state S.Store tx.old.conn.now).now s
         → ((state S.Store tx.new.conn.now).now ≡ (state S.Store tx.old.conn.now).now)
@@ -42,10 +44,11 @@ fn tried_rows<S: Alter>(tx: &mut Transaction<'_, S>, number: u64) -> Result<Vec<
 }
 
 /// Takes out the row of this number.
-fn take_resent<S: Alter>(tx: &mut Transaction<'_, S>, number: u64) -> Result<(), Error>
+fn take_resent<S: Alter>(tx: &mut Savepoint<'_, S>, number: u64) -> Result<(), Error>
     requires { number < 2 ^ 63 }
     ensures same_reference { tx.new.conn.ghost_name ≡ tx.old.conn.ghost_name }
-    ensures within { IsInside (state S.Store tx.old.conn.now) (state S.Store tx.new.conn.now) }
+    ensures place { tx.new.at ≡ tx.old.at }
+    ensures within { IsInside (tx.old.at + 1) (state S.Store tx.old.conn.now) (state S.Store tx.new.conn.now) }
     ensures put { HasCleanDisk (state S.Store tx.new.conn.now)
         → OnOk result ((way : Way) (ns : List ℕ) → HoldsResent way (state S.Store tx.old.conn.now).now ns
         → ChangesTable (state S.Store tx.old.conn.now) (state S.Store tx.new.conn.now) (store_schema way)
@@ -58,10 +61,11 @@ fn take_resent<S: Alter>(tx: &mut Transaction<'_, S>, number: u64) -> Result<(),
 }
 
 /// Puts in the row of this number.
-fn put_resent<S: Alter>(tx: &mut Transaction<'_, S>, number: u64) -> Result<(), Error>
+fn put_resent<S: Alter>(tx: &mut Savepoint<'_, S>, number: u64) -> Result<(), Error>
     requires { number < 2 ^ 63 }
     ensures same_reference { tx.new.conn.ghost_name ≡ tx.old.conn.ghost_name }
-    ensures within { IsInside (state S.Store tx.old.conn.now) (state S.Store tx.new.conn.now) }
+    ensures place { tx.new.at ≡ tx.old.at }
+    ensures within { IsInside (tx.old.at + 1) (state S.Store tx.old.conn.now) (state S.Store tx.new.conn.now) }
     ensures put { HasCleanDisk (state S.Store tx.new.conn.now)
         → OnOk result ((way : Way) → (state S.Store tx.old.conn.now).now.schema ≡ store_schema way
         → ChangesTable (state S.Store tx.old.conn.now) (state S.Store tx.new.conn.now) (store_schema way)
@@ -74,12 +78,13 @@ fn put_resent<S: Alter>(tx: &mut Transaction<'_, S>, number: u64) -> Result<(), 
 }
 
 /// Gives the document of this number a row, where it was tried: so it stays begun once it has no try.
-fn mark<S: Alter>(tx: &mut Transaction<'_, S>, number: u64) -> Result<(), Error>
+fn mark<S: Alter>(tx: &mut Savepoint<'_, S>, number: u64) -> Result<(), Error>
     requires number { number < 2 ^ 63 }
     requires begun { HasCleanDisk (state S.Store tx.old.conn.now)
         → IsTrue (state S.Store tx.old.conn.now).in_transaction }
     ensures same_reference { tx.new.conn.ghost_name ≡ tx.old.conn.ghost_name }
-    ensures within { IsInside (state S.Store tx.old.conn.now) (state S.Store tx.new.conn.now) }
+    ensures place { tx.new.at ≡ tx.old.at }
+    ensures within { IsInside (tx.old.at + 1) (state S.Store tx.old.conn.now) (state S.Store tx.new.conn.now) }
     ensures marked { HasCleanDisk (state S.Store tx.new.conn.now)
         → OnOk result ((way : Way) (s : State) → Stands (VersionThree way) (state S.Store tx.old.conn.now).now s
         → IsReady way (state S.Store tx.new.conn.now).now s number 0) }
@@ -94,12 +99,13 @@ fn mark<S: Alter>(tx: &mut Transaction<'_, S>, number: u64) -> Result<(), Error>
 }
 
 /// Readies the document of this number to be given so many tries.
-pub fn ready<S: Alter>(tx: &mut Transaction<'_, S>, number: u64, tries: u64) -> Result<(), Error>
+pub fn ready<S: Alter>(tx: &mut Savepoint<'_, S>, number: u64, tries: u64) -> Result<(), Error>
     requires number { number < 2 ^ 63 }
     requires begun { HasCleanDisk (state S.Store tx.old.conn.now)
         → IsTrue (state S.Store tx.old.conn.now).in_transaction }
     ensures same_reference { tx.new.conn.ghost_name ≡ tx.old.conn.ghost_name }
-    ensures within { IsInside (state S.Store tx.old.conn.now) (state S.Store tx.new.conn.now) }
+    ensures place { tx.new.at ≡ tx.old.at }
+    ensures within { IsInside (tx.old.at + 1) (state S.Store tx.old.conn.now) (state S.Store tx.new.conn.now) }
     ensures readied { HasCleanDisk (state S.Store tx.new.conn.now)
         → OnOk result ((way : Way) (s : State) → Stands (VersionThree way) (state S.Store tx.old.conn.now).now s
         → IsReady way (state S.Store tx.new.conn.now).now s number tries) }
@@ -112,10 +118,8 @@ pub fn ready<S: Alter>(tx: &mut Transaction<'_, S>, number: u64, tries: u64) -> 
 
 /// The row of this number, if there is one.
 fn resent_rows<S: Alter>(conn: &mut Connection<S>, number: u64) -> Result<Vec<Row>, Error>
-    requires autocommit { conn.old.in_transaction ≡ false }
     requires number { number < 2 ^ 63 }
-    ensures autocommit { conn.new.in_transaction ≡ false }
-    ensures rows { ReadsTables (λ s rows. (p : Document → Bool) (d : Document) → find p s.outbox ≡ Some d
+    ensures rows { ReadsBy (λ s rows. (p : Document → Bool) (d : Document) → find p s.outbox ≡ Some d
         → number ≡ d.number
         → d.begun ≡ (nat_le 1 d.tries || has_row rows.items)) (state S.Store conn.old) (state S.Store conn.new) result }
 {
@@ -129,11 +133,9 @@ fn resent_rows<S: Alter>(conn: &mut Connection<S>, number: u64) -> Result<Vec<Ro
 
 /// Whether the document whose row it is was begun.
 pub fn begun_in<S: Alter>(conn: &mut Connection<S>, row: &OutRow) -> Result<bool, StoreFault>
-    requires autocommit { conn.old.in_transaction ≡ false }
     requires open { HasCleanDisk (state S.Store conn.old) → IsTrue (state S.Store conn.old).is_open }
     requires number { row.now.number < 2 ^ 63 }
-    ensures autocommit { conn.new.in_transaction ≡ false }
-    ensures begun { ReadsTables (λ s begun. (p : Document → Bool) (d : Document) → find p s.outbox ≡ Some d
+    ensures begun { ReadsBy (λ s begun. (p : Document → Bool) (d : Document) → find p s.outbox ≡ Some d
         → row.now.number ≡ d.number → row.now.tries ≡ d.tries
         → begun ≡ d.begun) (state S.Store conn.old) (state S.Store conn.new) result }
     ensures fault { IfErr result (λ f. may_come f ≡ true) }

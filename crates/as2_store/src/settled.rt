@@ -2,7 +2,7 @@
 
 ghost use Rattle.std.specs.Prelude.{◌≡◌, false, ℕ, List, map, IfOk};
 ghost use Rattle.sqlite.specs.Held.{state};
-ghost use Rattle.as2_store.specs.Calls.{ReadsTables};
+ghost use Rattle.as2_store.specs.Rounds.{ReadsBy};
 ghost use Rattle.as2_store.specs.Due.{number_row};
 ghost use Rattle.as2_records.specs.Listing.{settled_numbers};
 
@@ -12,9 +12,7 @@ use std::alloc::Global;
 
 /// The rows of the numbers of the documents that a receipt has settled, in order.
 pub fn settled_rows<S: Alter>(conn: &mut Connection<S>) -> Result<Vec<Row>, Error>
-    requires autocommit { conn.old.in_transaction ≡ false }
-    ensures autocommit { conn.new.in_transaction ≡ false }
-    ensures rows { ReadsTables (λ s rows. rows.items
+    ensures rows { ReadsBy (λ s rows. rows.items
         ≡ map number_row (settled_numbers s)) (state S.Store conn.old) (state S.Store conn.new) result }
 {
     query_all(conn, "SELECT number FROM evidence ORDER BY number", &[])

@@ -1,9 +1,10 @@
 //! A receipt settles a document: in one transaction the document changes, its evidence is put in, and it waits no more.
 
-ghost use Rattle.std.specs.Prelude.{◌≡◌, ◌==◌, ◌<◌, ◌^◌, true, false, map, filter, length, IsTrue, IfOk, OnOk};
+ghost use Rattle.std.specs.Prelude.{◌≡◌, ◌+◌, ◌==◌, ◌<◌, ◌^◌, true, false, map, filter, length, IsTrue, IfOk, OnOk};
 ghost use Rattle.sqlite.specs.Held.{state};
 ghost use Rattle.sqlite.specs.State.{HasCleanDisk};
-ghost use Rattle.as2_store.specs.Calls.{IsInside, WritesTables};
+ghost use Rattle.as2_store.specs.Calls.{IsInside};
+ghost use Rattle.as2_store.specs.Rounds.{WritesBy};
 ghost use Rattle.sql_tables.specs.Changes.{ChangesTable};
 ghost use Rattle.as2_exchange.specs.State.{State, change_document};
 ghost use Rattle.as2_exchange.specs.Invariants.{is_by_receipt};
@@ -20,18 +21,19 @@ use crate::waiting::take_document;
 use as2_exchange::Evidence;
 use as2_mdn::Detail;
 use as2_rows::detail_code;
-use sqlite::{Alter, Connection, Error, Transaction, params};
+use sqlite::{Alter, Connection, Error, Savepoint, params};
 
 /// Sets the document of this number to have this detail, with no try open and nothing due, and answers how many documents
 /// have the number.
 fn set_settled<S: Alter>(
-    tx: &mut Transaction<'_, S>,
+    tx: &mut Savepoint<'_, S>,
     number: u64,
     detail: Detail,
 ) -> Result<usize, Error>
     requires { number < 2 ^ 63 }
     ensures same_reference { tx.new.conn.ghost_name ≡ tx.old.conn.ghost_name }
-    ensures within { IsInside (state S.Store tx.old.conn.now) (state S.Store tx.new.conn.now) }
+    ensures place { tx.new.at ≡ tx.old.at }
+    ensures within { IsInside (tx.old.at + 1) (state S.Store tx.old.conn.now) (state S.Store tx.new.conn.now) }
     ensures open { HasCleanDisk (state S.Store tx.new.conn.now)
         → OnOk result (IsTrue (state S.Store tx.old.conn.now).is_open) }
     ensures put { HasCleanDisk (state S.Store tx.new.conn.now)
@@ -58,16 +60,14 @@ pub fn settle<S: Alter>(
     evidence: &Evidence,
     body: &[u8],
 ) -> Result<(), Error>
-    requires autocommit { conn.old.in_transaction ≡ false }
     requires by_receipt { is_by_receipt detail ≡ true }
     requires body { body.now ≡ evidence.now.body }
-    ensures autocommit { conn.new.in_transaction ≡ false }
-    ensures settled { WritesTables (settled_in number detail evidence.now) (state S.Store conn.old)
+    ensures settled { WritesBy (settled_in number detail evidence.now) (state S.Store conn.old)
         (state S.Store conn.new)
         result }
 {
     let wanted = asked(number);
-    let mut tx = conn.transaction();
+    let mut tx = conn.savepoint()?;
     if set_settled(&mut tx, wanted, detail)? == 0 {
         return Err(Error::QueryReturnedNoRows);
     }

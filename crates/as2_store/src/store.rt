@@ -1,6 +1,6 @@
 //! The store: its contracts speak of the state that the tables stand for, and of no row.
 
-ghost use Rattle.std.specs.Prelude.{◌≡◌, ◌⊎◌, ◌<◌, ◌≤◌, ℕ, List, map, find, None, Some, true, false, Err, IsTrue, IfOk, IfErr, OnOk, OnErr};
+ghost use Rattle.std.specs.Prelude.{◌≡◌, ◌⊎◌, ◌<◌, ◌≤◌, ℕ, List, map, find, not, None, Some, true, false, Err, IsTrue, IfOk, IfErr, OnOk, OnErr};
 ghost use Rattle.sqlite.specs.Held.{state};
 ghost use Rattle.sqlite.specs.State.{HasCleanDisk};
 ghost use Rattle.as2_exchange.specs.State.{State, end_of_numbers, document, document_named, origin_of, received_entry};
@@ -11,7 +11,8 @@ ghost use Rattle.as2_records.specs.Counting.{counts_of};
 ghost use Rattle.as2_records.specs.Due.{numbers_behind};
 ghost use Rattle.as2_records.specs.Listing.{settled_numbers, listed_rows};
 ghost use Rattle.as2_records.specs.Adding.{state_with, added_document};
-ghost use Rattle.as2_store.specs.Calls.{Adopts, CommitsTables, CommitsFirst, Creates, IsGivenBack, IsReason, ReadsTables, WritesTables};
+ghost use Rattle.as2_store.specs.Calls.{Adopts, CommitsTables, CommitsFirst, Creates, IsGivenBack, IsReason};
+ghost use Rattle.as2_store.specs.Rounds.{BeginsRound, EndsRound, ReadsBy, WritesBy};
 ghost use Rattle.as2_store.specs.Expiring.{TicksTablesAs};
 ghost use Rattle.as2_records.specs.Expiring.{ticked_in};
 ghost use Rattle.as2_store.specs.Finding.{evidence_at};
@@ -46,7 +47,7 @@ use crate::progress::set;
 use crate::settled::{numbers_in, settled_rows};
 use crate::settling::settle;
 use crate::submitting::{add_document, is_begun_by_tries};
-use crate::{inbox, listing, outbox, owed};
+use crate::{inbox, listing, outbox, owed, rounds};
 use as2_exchange::{
     Attempt, END_OF_NUMBERS, Evidence, InEntry, OutEntry, ReceiptStage, RowPlace, StoreFault,
     Table, is_by_receipt,
@@ -66,7 +67,6 @@ pub struct Store<S: Alter> {
 }
 
 impl<S: Alter> Model for Store<S> {
-    ghost use Rattle.std.specs.Prelude.{◌≡◌, false};
     ghost use Rattle.sqlite.specs.Held.{Held, held_code};
 
     ghost Value = { Held S };
@@ -74,8 +74,6 @@ impl<S: Alter> Model for Store<S> {
     ghost coded = { held_code S.code };
 
     ghost view = { λ s. s.conn };
-
-    ghost invariant = { λ s. s.conn.in_transaction ≡ false };
 }
 
 impl<S: Alter> Store<S> {
@@ -141,9 +139,33 @@ impl<S: Alter> Store<S> {
         conn
     }
 
+    /// No round is open: each call commits what it writes.
+    pub fn is_alone(&self) -> bool
+        ensures { result ≡ not self.now.in_transaction }
+    {
+        self.conn.is_autocommit()
+    }
+
+    /// Begins a round: nothing that is written is committed before `commit`. Answers Memory, Disk or Refused, and then the state stays.
+    pub fn hold(&mut self) -> Result<(), StoreFault>
+        requires alone { self.old.in_transaction ≡ false }
+        ensures begins { BeginsRound (state S.Store self.old) (state S.Store self.new) result }
+        ensures fault { IfErr result (λ f. may_come f ≡ true) }
+    {
+        rounds::hold(&mut self.conn).map_err(fault_of)
+    }
+
+    /// Commits what was written in a round. Answers Memory, Disk or Refused, and then the round is lost.
+    pub fn commit(&mut self) -> Result<(), StoreFault>
+        ensures ends { EndsRound (state S.Store self.old) (state S.Store self.new) result }
+        ensures fault { IfErr result (λ f. may_come f ≡ true) }
+    {
+        rounds::commit(&mut self.conn).map_err(fault_of)
+    }
+
     /// The numbers that the next entries get. Answers Memory, Disk, Refused or Damaged.
     pub fn next_numbers(&mut self) -> Result<NextNumbers, StoreFault>
-        ensures numbers { ReadsTables (λ s next. AreNext next s) (state S.Store self.old) (state S.Store self.new)
+        ensures numbers { ReadsBy (λ s next. AreNext next s) (state S.Store self.old) (state S.Store self.new)
             result }
         ensures fault { IfErr result (λ f. may_come f ≡ true) }
         ensures row { IfErr result (λ f. comes_of (is_row_of table.Meta) f ≡ true) }
@@ -154,7 +176,7 @@ impl<S: Alter> Store<S> {
     /// The number below which receipts were recorded by the first version of the tables, 0 where none was. Answers Memory, Disk, Refused or
     /// Damaged.
     pub fn origin(&mut self) -> Result<u64, StoreFault>
-        ensures origin { ReadsTables (λ s number. number
+        ensures origin { ReadsBy (λ s number. number
             ≡ origin_of s.version) (state S.Store self.old) (state S.Store self.new) result }
         ensures fault { IfErr result (λ f. may_come f ≡ true) }
         ensures row { IfErr result (λ f. comes_of (is_row_of table.Origin) f ≡ true) }
@@ -171,7 +193,7 @@ impl<S: Alter> Store<S> {
     /// past 999,999,999,999, and then touches nothing. Answers Refused where it isn't the next, where another entry has its sender, receiver
     /// and identifier value, and where a number of it fits no column. Answers also Memory, Disk or Refused. A fault leaves the state.
     pub fn add_in(&mut self, entry: &InEntry) -> Result<(), StoreFault>
-        ensures added { WritesTables (state_with entry.now) (state S.Store self.old) (state S.Store self.new) result }
+        ensures added { WritesBy (state_with entry.now) (state S.Store self.old) (state S.Store self.new) result }
         ensures full { IfErr result (λ f. f ≡ Full → end_of_numbers ≤ entry.now.number) }
         ensures full_alone { end_of_numbers ≤ entry.now.number → result ≡ Err Full }
         ensures full_same { end_of_numbers ≤ entry.now.number → self.new ≡ self.old }
@@ -192,7 +214,7 @@ impl<S: Alter> Store<S> {
     /// not begun. Answers also Memory, Disk or Refused. A fault leaves the state.
     pub fn add_out(&mut self, entry: &OutEntry) -> Result<(), StoreFault>
         requires unsettled { entry.now.evidence ≡ None }
-        ensures added { WritesTables (added_document entry.now) (state S.Store self.old) (state S.Store self.new)
+        ensures added { WritesBy (added_document entry.now) (state S.Store self.old) (state S.Store self.new)
             result }
         ensures full { IfErr result (λ f. f ≡ Full → end_of_numbers ≤ entry.now.number) }
         ensures full_alone { end_of_numbers ≤ entry.now.number → result ≡ Err Full }
@@ -214,7 +236,7 @@ impl<S: Alter> Store<S> {
     /// Sets the receipt of the entry of the inbox of this number, if there is one, to be sent from this moment on, with all
     /// tries left. Answers Memory, Disk or Refused, and then the state stays.
     pub fn requeue_receipt(&mut self, number: u64, moment: Moment) -> Result<(), StoreFault>
-        ensures requeued { WritesTables (requeued_in number moment) (state S.Store self.old) (state S.Store self.new)
+        ensures requeued { WritesBy (requeued_in number moment) (state S.Store self.old) (state S.Store self.new)
             result }
         ensures fault { IfErr result (λ f. may_come f ≡ true) }
     {
@@ -230,7 +252,7 @@ impl<S: Alter> Store<S> {
     /// Sets how far the receipt of the entry of the inbox of this number, if there is one, has come. Answers Refused where a number of it
     /// fits no column; Memory, Disk or Refused; and then the state stays.
     pub fn set_receipt(&mut self, number: u64, progress: ReceiptProgress) -> Result<(), StoreFault>
-        ensures set { WritesTables (set_receipt_in number progress) (state S.Store self.old) (state S.Store self.new)
+        ensures set { WritesBy (set_receipt_in number progress) (state S.Store self.old) (state S.Store self.new)
             result }
         ensures fault { IfErr result (λ f. may_come f ≡ true) }
     {
@@ -243,7 +265,7 @@ impl<S: Alter> Store<S> {
     /// Time passes: each document whose receipt is overdue at this moment passes into `Overdue`, and each whose last try is into
     /// `TriesUsed`. Answers how many there are; Memory, Disk, Refused or Damaged, and then the state stays.
     pub fn expire(&mut self, moment: Moment) -> Result<u64, StoreFault>
-        ensures passed { WritesTables (ticked_in moment) (state S.Store self.old) (state S.Store self.new) result }
+        ensures passed { WritesBy (ticked_in moment) (state S.Store self.old) (state S.Store self.new) result }
         ensures counted { HasCleanDisk (state S.Store self.new)
             → IfOk result (TicksTablesAs moment (state S.Store self.old)) }
         ensures fault { IfErr result (λ f. may_come f ≡ true) }
@@ -259,7 +281,7 @@ impl<S: Alter> Store<S> {
     /// Sets how far the document of this number has come. Answers Refused where no document has the number, and where a number of it fits no
     /// column; Memory, Disk or Refused; and then the state stays.
     pub fn set_out(&mut self, number: u64, progress: Progress) -> Result<(), StoreFault>
-        ensures set { WritesTables (set_out_in number progress) (state S.Store self.old) (state S.Store self.new)
+        ensures set { WritesBy (set_out_in number progress) (state S.Store self.old) (state S.Store self.new)
             result }
         ensures fault { IfErr result (λ f. may_come f ≡ true) }
     {
@@ -272,7 +294,7 @@ impl<S: Alter> Store<S> {
     /// Queues the document of this number to be sent anew from this moment on, with all tries left. Answers Refused where no document
     /// has the number; Memory, Disk or Refused; and then the state stays.
     pub fn resend(&mut self, number: u64, moment: Moment) -> Result<(), StoreFault>
-        ensures resent { WritesTables (resent_in number moment) (state S.Store self.old) (state S.Store self.new)
+        ensures resent { WritesBy (resent_in number moment) (state S.Store self.old) (state S.Store self.new)
             result }
         ensures fault { IfErr result (λ f. may_come f ≡ true) }
     {
@@ -294,7 +316,7 @@ impl<S: Alter> Store<S> {
         detail: Detail,
         evidence: &Evidence,
     ) -> Result<(), StoreFault>
-        ensures settled { WritesTables (settled_in number detail evidence.now) (state S.Store self.old)
+        ensures settled { WritesBy (settled_in number detail evidence.now) (state S.Store self.old)
             (state S.Store self.new) result }
         ensures fault { IfErr result (λ f. may_come f ≡ true) }
     {
@@ -316,7 +338,7 @@ impl<S: Alter> Store<S> {
         receiver: &AsName,
         id_value: &str,
     ) -> Result<Option<InEntry>, StoreFault>
-        ensures found { ReadsTables (IsPostedAs sender.now receiver.now id_value.now) (state S.Store self.old)
+        ensures found { ReadsBy (IsPostedAs sender.now receiver.now id_value.now) (state S.Store self.old)
             (state S.Store self.new) result }
         ensures fault { IfErr result (λ f. may_come f ≡ true) }
         ensures row { IfErr result (λ f. comes_of is_in_inbox f ≡ true) }
@@ -337,7 +359,7 @@ impl<S: Alter> Store<S> {
         alloc: Global,
         number: u64,
     ) -> Result<Option<InEntry>, StoreFault>
-        ensures found { ReadsTables (λ s found. found
+        ensures found { ReadsBy (λ s found. found
             ≡ received_entry s number) (state S.Store self.old) (state S.Store self.new) result }
         ensures fault { IfErr result (λ f. may_come f ≡ true) }
         ensures row { IfErr result (λ f. comes_of is_in_inbox f ≡ true) }
@@ -348,7 +370,7 @@ impl<S: Alter> Store<S> {
 
     /// The document of this number, if there is one, with its content and its evidence. Answers Memory, Disk, Refused or Damaged.
     pub fn find_out(&mut self, alloc: Global, number: u64) -> Result<Option<OutEntry>, StoreFault>
-        ensures found { ReadsTables (λ s found. found
+        ensures found { ReadsBy (λ s found. found
             ≡ document s number) (state S.Store self.old) (state S.Store self.new) result }
         ensures fault { IfErr result (λ f. may_come f ≡ true) }
         ensures row { IfErr result (λ f. comes_of is_in_outbox f ≡ true) }
@@ -364,7 +386,7 @@ impl<S: Alter> Store<S> {
         alloc: Global,
         id_value: &[u8],
     ) -> Result<Option<OutEntry>, StoreFault>
-        ensures found { ReadsTables (λ s found. found
+        ensures found { ReadsBy (λ s found. found
             ≡ document_named s id_value.now) (state S.Store self.old) (state S.Store self.new) result }
         ensures fault { IfErr result (λ f. may_come f ≡ true) }
         ensures row { IfErr result (λ f. comes_of is_in_outbox f ≡ true) }
@@ -376,7 +398,7 @@ impl<S: Alter> Store<S> {
     /// The receipt that settled the document of this number; None where none has, or where there is no such document. Answers
     /// Memory, Disk, Refused or Damaged.
     pub fn evidence(&mut self, alloc: Global, number: u64) -> Result<Option<Evidence>, StoreFault>
-        ensures found { ReadsTables (λ s found. found
+        ensures found { ReadsBy (λ s found. found
             ≡ evidence_at s number) (state S.Store self.old) (state S.Store self.new) result }
         ensures fault { IfErr result (λ f. may_come f ≡ true) }
         ensures row { IfErr result (λ f. comes_of (is_row_at table.Evidence number) f ≡ true) }
@@ -391,7 +413,7 @@ impl<S: Alter> Store<S> {
         moment: Moment,
         behind: Option<u64>,
     ) -> Result<Option<u64>, StoreFault>
-        ensures due { ReadsTables (λ s number. number
+        ensures due { ReadsBy (λ s number. number
             ≡ least (numbers_behind behind (due_documents s moment))) (state S.Store self.old) (state S.Store self.new) result }
         ensures fault { IfErr result (λ f. may_come f ≡ true) }
         ensures row { IfErr result (λ f. comes_of (is_row_of table.Waiting) f ≡ true) }
@@ -406,7 +428,7 @@ impl<S: Alter> Store<S> {
         moment: Moment,
         behind: Option<u64>,
     ) -> Result<Option<u64>, StoreFault>
-        ensures due { ReadsTables (λ s number. number
+        ensures due { ReadsBy (λ s number. number
             ≡ least (numbers_behind behind (due_receipts s moment))) (state S.Store self.old) (state S.Store self.new) result }
         ensures fault { IfErr result (λ f. may_come f ≡ true) }
         ensures row { IfErr result (λ f. comes_of (is_row_of table.Waiting) f ≡ true) }
@@ -421,7 +443,7 @@ impl<S: Alter> Store<S> {
         alloc: Global,
         wanted: Option<DetailClass>,
     ) -> Result<Vec<OutRow>, StoreFault>
-        ensures documents { ReadsTables (λ s documents. documents.items
+        ensures documents { ReadsBy (λ s documents. documents.items
             ≡ listed_rows wanted s) (state S.Store self.old) (state S.Store self.new) result }
         ensures fault { IfErr result (λ f. may_come f ≡ true) }
         ensures row { IfErr result (λ f. comes_of (is_row_of table.Outbox) f ≡ true) }
@@ -433,7 +455,7 @@ impl<S: Alter> Store<S> {
     /// The entries of the inbox in order of number, each with the length of its content in place of the content. Answers
     /// Memory, Disk, Refused or Damaged.
     pub fn list_in(&mut self, alloc: Global) -> Result<Vec<InRow>, StoreFault>
-        ensures entries { ReadsTables (λ s entries. entries.items
+        ensures entries { ReadsBy (λ s entries. entries.items
             ≡ map in_summary s.inbox) (state S.Store self.old) (state S.Store self.new) result }
         ensures fault { IfErr result (λ f. may_come f ≡ true) }
         ensures row { IfErr result (λ f. comes_of (is_row_of table.Inbox) f ≡ true) }
@@ -444,7 +466,7 @@ impl<S: Alter> Store<S> {
 
     /// The numbers of the documents that a receipt has settled, in order. Answers Memory, Disk, Refused or Damaged.
     pub fn settled(&mut self, alloc: Global) -> Result<Vec<u64>, StoreFault>
-        ensures numbers { ReadsTables (λ s numbers. numbers.items
+        ensures numbers { ReadsBy (λ s numbers. numbers.items
             ≡ settled_numbers s) (state S.Store self.old) (state S.Store self.new) result }
         ensures fault { IfErr result (λ f. may_come f ≡ true) }
         ensures row { IfErr result (λ f. comes_of (is_row_of table.Evidence) f ≡ true) }
@@ -459,7 +481,7 @@ impl<S: Alter> Store<S> {
 
     /// How much is outstanding. Answers Memory, Disk, Refused or Damaged.
     pub fn counts(&mut self, alloc: Global) -> Result<Counts, StoreFault>
-        ensures counts { ReadsTables (λ s counts. counts
+        ensures counts { ReadsBy (λ s counts. counts
             ≡ counts_of s) (state S.Store self.old) (state S.Store self.new) result }
         ensures fault { IfErr result (λ f. may_come f ≡ true) }
     {
@@ -471,7 +493,7 @@ impl<S: Alter> Store<S> {
     /// The first discrepancy between the entries and what is kept beside them, the counters and what waits. Tables that stand for a
     /// state have none. Answers Memory, Disk, Refused or Damaged.
     pub fn discrepancy(&mut self, alloc: Global) -> Result<Option<Discrepancy>, StoreFault>
-        ensures none { ReadsTables (λ s found. found ≡ None) (state S.Store self.old) (state S.Store self.new) result }
+        ensures none { ReadsBy (λ s found. found ≡ None) (state S.Store self.old) (state S.Store self.new) result }
         ensures fault { IfErr result (λ f. may_come f ≡ true) }
     {
         discrepancy(&mut self.conn, alloc)

@@ -1,6 +1,6 @@
 //! The rows of what waits.
 
-ghost use Rattle.std.specs.Prelude.{◌≡◌, ◌≤◌, ◌<◌, ◌^◌, Some, None, option_map, false, List, map, IsTrue, IfSome, OnOk};
+ghost use Rattle.std.specs.Prelude.{◌≡◌, ◌+◌, ◌≤◌, ◌<◌, ◌^◌, Some, None, option_map, false, List, map, IsTrue, IfSome, OnOk};
 ghost use Rattle.sqlite.specs.Held.{state};
 ghost use Rattle.sqlite.specs.State.{HasCleanDisk};
 ghost use Rattle.as2_store.specs.Calls.{IsInside};
@@ -20,11 +20,11 @@ use as2_exchange::{Attempt, END_OF_NUMBERS, InEntry, ReceiptStage};
 use as2_mdn::Detail;
 use as2_records::{Progress, ReceiptProgress};
 use as2_rows::Wait;
-use sqlite::{Alter, Error, Transaction, params};
+use sqlite::{Alter, Error, Savepoint, params};
 
 /// Puts in a row of what waits.
 fn put_waiting<S: Alter>(
-    tx: &mut Transaction<'_, S>,
+    tx: &mut Savepoint<'_, S>,
     wait: Wait,
     number: u64,
     due: Option<u64>,
@@ -32,7 +32,8 @@ fn put_waiting<S: Alter>(
     requires number { number ≤ end_of_numbers }
     requires due { IfSome due (λ due. due < 2 ^ 63) }
     ensures same_reference { tx.new.conn.ghost_name ≡ tx.old.conn.ghost_name }
-    ensures within { IsInside (state S.Store tx.old.conn.now) (state S.Store tx.new.conn.now) }
+    ensures place { tx.new.at ≡ tx.old.at }
+    ensures within { IsInside (tx.old.at + 1) (state S.Store tx.old.conn.now) (state S.Store tx.new.conn.now) }
     ensures inside { HasCleanDisk (state S.Store tx.new.conn.now)
         → OnOk result (IsTrue (state S.Store tx.new.conn.now).in_transaction) }
     ensures put { HasCleanDisk (state S.Store tx.new.conn.now)
@@ -62,10 +63,11 @@ fn place_of(wait: Wait, number: u64) -> u64
 }
 
 /// Takes out the row of what waits at this place.
-fn take_waiting<S: Alter>(tx: &mut Transaction<'_, S>, place: u64) -> Result<(), Error>
+fn take_waiting<S: Alter>(tx: &mut Savepoint<'_, S>, place: u64) -> Result<(), Error>
     requires { place < 2 ^ 63 }
     ensures same_reference { tx.new.conn.ghost_name ≡ tx.old.conn.ghost_name }
-    ensures within { IsInside (state S.Store tx.old.conn.now) (state S.Store tx.new.conn.now) }
+    ensures place { tx.new.at ≡ tx.old.at }
+    ensures within { IsInside (tx.old.at + 1) (state S.Store tx.old.conn.now) (state S.Store tx.new.conn.now) }
     ensures inside { HasCleanDisk (state S.Store tx.new.conn.now)
         → OnOk result (IsTrue (state S.Store tx.new.conn.now).in_transaction) }
     ensures put { HasCleanDisk (state S.Store tx.new.conn.now)
@@ -91,14 +93,15 @@ pub fn is_to_answer(receipt_stage: ReceiptStage, attempt: Attempt) -> bool
 
 /// Puts in the row of the receipt of this number, if it is to be sent.
 fn put_owed_waiting<S: Alter>(
-    tx: &mut Transaction<'_, S>,
+    tx: &mut Savepoint<'_, S>,
     number: u64,
     progress: ReceiptProgress,
 ) -> Result<(), Error>
     requires number { number ≤ end_of_numbers }
     requires due { IfSome progress.due (λ due. due < 2 ^ 63) }
     ensures same_reference { tx.new.conn.ghost_name ≡ tx.old.conn.ghost_name }
-    ensures within { IsInside (state S.Store tx.old.conn.now) (state S.Store tx.new.conn.now) }
+    ensures place { tx.new.at ≡ tx.old.at }
+    ensures within { IsInside (tx.old.at + 1) (state S.Store tx.old.conn.now) (state S.Store tx.new.conn.now) }
     ensures inside { HasCleanDisk (state S.Store tx.new.conn.now)
         → IsTrue (state S.Store tx.old.conn.now).in_transaction
         → OnOk result (IsTrue (state S.Store tx.new.conn.now).in_transaction) }
@@ -114,11 +117,12 @@ fn put_owed_waiting<S: Alter>(
 }
 
 /// Puts in the row of an entry whose receipt is to be sent.
-pub fn put_in_waiting<S: Alter>(tx: &mut Transaction<'_, S>, entry: &InEntry) -> Result<(), Error>
+pub fn put_in_waiting<S: Alter>(tx: &mut Savepoint<'_, S>, entry: &InEntry) -> Result<(), Error>
     requires number { entry.now.number < end_of_numbers }
     requires due { IfSome entry.now.due (λ due. due < 2 ^ 63) }
     ensures same_reference { tx.new.conn.ghost_name ≡ tx.old.conn.ghost_name }
-    ensures within { IsInside (state S.Store tx.old.conn.now) (state S.Store tx.new.conn.now) }
+    ensures place { tx.new.at ≡ tx.old.at }
+    ensures within { IsInside (tx.old.at + 1) (state S.Store tx.old.conn.now) (state S.Store tx.new.conn.now) }
     ensures put { HasCleanDisk (state S.Store tx.new.conn.now)
         → OnOk result ((way : Way) → (state S.Store tx.old.conn.now).now.schema ≡ store_schema way
         → NotesWaiting way (state S.Store tx.old.conn.now) (state S.Store tx.new.conn.now) (in_waiting entry.now)) }
@@ -147,14 +151,15 @@ pub fn wait_of(detail: Detail, attempt: Attempt) -> Option<Wait>
 
 /// Puts in the row of what the document of this number waits for, if it waits for something.
 pub fn put_out_waiting<S: Alter>(
-    tx: &mut Transaction<'_, S>,
+    tx: &mut Savepoint<'_, S>,
     number: u64,
     progress: Progress,
 ) -> Result<(), Error>
     requires number { number ≤ end_of_numbers }
     requires due { IfSome progress.due (λ due. due < 2 ^ 63) }
     ensures same_reference { tx.new.conn.ghost_name ≡ tx.old.conn.ghost_name }
-    ensures within { IsInside (state S.Store tx.old.conn.now) (state S.Store tx.new.conn.now) }
+    ensures place { tx.new.at ≡ tx.old.at }
+    ensures within { IsInside (tx.old.at + 1) (state S.Store tx.old.conn.now) (state S.Store tx.new.conn.now) }
     ensures inside { HasCleanDisk (state S.Store tx.new.conn.now)
         → IsTrue (state S.Store tx.old.conn.now).in_transaction
         → OnOk result (IsTrue (state S.Store tx.new.conn.now).in_transaction) }
@@ -170,14 +175,15 @@ pub fn put_out_waiting<S: Alter>(
 
 /// Puts in the row of what the document of this number waits for now, in place of what it waited for.
 pub fn wait_for<S: Alter>(
-    tx: &mut Transaction<'_, S>,
+    tx: &mut Savepoint<'_, S>,
     number: u64,
     progress: Progress,
 ) -> Result<(), Error>
     requires number { number ≤ end_of_numbers }
     requires due { IfSome progress.due (λ due. due < 2 ^ 63) }
     ensures same_reference { tx.new.conn.ghost_name ≡ tx.old.conn.ghost_name }
-    ensures within { IsInside (state S.Store tx.old.conn.now) (state S.Store tx.new.conn.now) }
+    ensures place { tx.new.at ≡ tx.old.at }
+    ensures within { IsInside (tx.old.at + 1) (state S.Store tx.old.conn.now) (state S.Store tx.new.conn.now) }
     ensures inside { HasCleanDisk (state S.Store tx.new.conn.now)
         → OnOk result (IsTrue (state S.Store tx.new.conn.now).in_transaction) }
     ensures put { HasCleanDisk (state S.Store tx.new.conn.now)
@@ -191,14 +197,15 @@ pub fn wait_for<S: Alter>(
 
 /// Puts in the row of the receipt of this number, where it is to be sent, in place of the one that it has, if it has one.
 pub fn answer_for<S: Alter>(
-    tx: &mut Transaction<'_, S>,
+    tx: &mut Savepoint<'_, S>,
     number: u64,
     progress: ReceiptProgress,
 ) -> Result<(), Error>
     requires number { number ≤ end_of_numbers }
     requires due { IfSome progress.due (λ due. due < 2 ^ 63) }
     ensures same_reference { tx.new.conn.ghost_name ≡ tx.old.conn.ghost_name }
-    ensures within { IsInside (state S.Store tx.old.conn.now) (state S.Store tx.new.conn.now) }
+    ensures place { tx.new.at ≡ tx.old.at }
+    ensures within { IsInside (tx.old.at + 1) (state S.Store tx.old.conn.now) (state S.Store tx.new.conn.now) }
     ensures inside { HasCleanDisk (state S.Store tx.new.conn.now)
         → OnOk result (IsTrue (state S.Store tx.new.conn.now).in_transaction) }
     ensures put { HasCleanDisk (state S.Store tx.new.conn.now)
@@ -211,10 +218,11 @@ pub fn answer_for<S: Alter>(
 }
 
 /// Takes out what the document of this number waits for. A receipt of the same number stays.
-pub fn take_document<S: Alter>(tx: &mut Transaction<'_, S>, number: u64) -> Result<(), Error>
+pub fn take_document<S: Alter>(tx: &mut Savepoint<'_, S>, number: u64) -> Result<(), Error>
     requires { number ≤ end_of_numbers }
     ensures same_reference { tx.new.conn.ghost_name ≡ tx.old.conn.ghost_name }
-    ensures within { IsInside (state S.Store tx.old.conn.now) (state S.Store tx.new.conn.now) }
+    ensures place { tx.new.at ≡ tx.old.at }
+    ensures within { IsInside (tx.old.at + 1) (state S.Store tx.old.conn.now) (state S.Store tx.new.conn.now) }
     ensures inside { HasCleanDisk (state S.Store tx.new.conn.now)
         → OnOk result (IsTrue (state S.Store tx.new.conn.now).in_transaction) }
     ensures put { HasCleanDisk (state S.Store tx.new.conn.now)

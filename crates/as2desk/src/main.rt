@@ -8,11 +8,11 @@ use as2_client::ask_station;
 use as2_connections::{ProgressLine, Sockets, clock};
 use as2_desk::{Console, Host, Outside};
 use as2_files::{FileSystem, InFiles, KeepFiles, OpenFiles, StoreFiles, SystemFiles};
-use as2_host::{CountsBusy, Lines, OpenStores};
+use as2_host::{CountsBusy, Lines, OpenRounds};
 use as2_http::{Counted, Journal, Sink, Source};
 use as2_kept::Kept;
 use as2_loop::{Held, Spanned, run_station};
-use as2_records::Records;
+use as2_records::Rounds;
 use sqlite::FileStore;
 use sqlite_disk::Disk;
 use sqlite_std_file::Unknown;
@@ -49,7 +49,7 @@ enum Came {
 
 /// Runs a command line: through the station that runs over its store, where one does; else as a station, where the words ask for one; else
 /// at the desk.
-fn run_words<O: OpenStores, R: Source, W: Sink, H: Write + Journal + CountsBusy + Watch, E: Sink>(
+fn run_words<O: OpenRounds, R: Source, W: Sink, H: Write + Journal + CountsBusy + Watch, E: Sink>(
     rt: &HostRuntime,
     words: &[&str],
     held: Option<Held>,
@@ -76,7 +76,7 @@ fn run_words<O: OpenStores, R: Source, W: Sink, H: Write + Journal + CountsBusy 
 /// Runs a command line over these stores, the file system, the network and the standard streams, with counts of the calls that are
 /// made of input, output and errors. The stores are any, since over one kind of files this call of the desk costs the prover too much. Hints and
 /// notes of replies go to `hints`. What came of it, and the stores, since only where their kind is known can they be let go.
-fn run<O: OpenStores, A: Ledger, B: Ledger, C: Ledger, D: Ledger, E: Ledger, G: Ledger>(
+fn run<O: OpenRounds, A: Ledger, B: Ledger, C: Ledger, D: Ledger, E: Ledger, G: Ledger>(
     rt: &HostRuntime,
     words: &[&str],
     held: Option<Held>,
@@ -117,7 +117,7 @@ fn run<O: OpenStores, A: Ledger, B: Ledger, C: Ledger, D: Ledger, E: Ledger, G: 
 }
 
 /// Runs a command line over the stores that `keeper` opens. It is any one, so that this call and the next are two steps for the prover.
-fn run_over_stores<R: Records + Drop, K: KeepFiles<R> + Drop>(
+fn run_over_stores<R: Rounds + Drop, K: KeepFiles<R> + Drop>(
     rt: &HostRuntime,
     words: &[&str],
     held: Option<Held>,

@@ -35,6 +35,15 @@ pub shown_stays : (sql : List ℕ) (params : Row) (old new : Connected) (rows : 
 unfolding Shown
 shown_stays sql params old new rows inside h = shows_stay old new sql h.0 _ rows _ inside h.2
 
+shows_is_open : (old new : Connected) (sql : List ℕ) (c : Compiled) (params : Row) (rows : List Row) (r : Option Returning)
+    → ShowsRows old new sql c params rows r → IsTrue new.is_open
+shows_is_open old new sql c params rows None h = h.3.0.is_open
+shows_is_open old new sql c params rows (Some what) h = h.1.shown.is_open
+
+pub shown_is_open : (sql : List ℕ) (params : Row) (old new : Connected) (rows : List Row) → Shown sql params old new rows → IsTrue new.is_open
+unfolding Shown
+shown_is_open sql params old new rows h = shows_is_open old new sql h.0 _ rows _ h.2
+
 pub failed_keeps : (sql : List ℕ) (params : Row) (old new : Connected) (e : Error) → FailsToQuery sql params old new e ⊎ IsTooLate sql params old new e
     → KeepsCommit old new
 failed_keeps sql params old new e (inl failed) = unchanged_keeps old new (fails_to_query sql params old new e failed)

@@ -22,7 +22,7 @@ use Rattle.as2_store.proofs.adopting.check.Goals as goal
 
 -- the query ran, and nothing is committed
 inside : (g : Over) (c : After-query_all g)
-    → IsInside (state g.S.Store (record c.args.conn.now { in_transaction = true })) (state g.S.Store c.query_all.new.self.conn.now)
+    → IsInside 0 (state g.S.Store (record c.args.conn.now { in_transaction = true })) (state g.S.Store c.query_all.new.self.conn.now)
 inside g c =
     queried_first g.S.Store c.args.conn.now _ (λ rows. rows.items) meta_read_text [] (state g.S.Store c.query_all.new.self.conn.now) c.query_all.result
     c.transaction-tx.ensures.begun c.query_all.ensures.ok c.query_all.ensures.err c.query_all.ensures.survives

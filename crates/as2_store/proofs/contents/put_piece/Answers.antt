@@ -13,20 +13,20 @@ use Rattle.as2_store.proofs.contents.put_piece.Goals as goal
 
 pub returns-in_err-execute-in-Inbox-clause-within : goal.returns-in_err-execute-in-Inbox-clause-within
 returns-in_err-execute-in-Inbox-clause-within g c =
-    ran_inside g.S.Store _ _ c.args.tx.now.conn.now c.execute.new.self.conn.now c.execute.result _
+    ran_inside g.S.Store _ _ c.args.tx.now.conn.now c.execute.new.self.conn.now c.execute.result _ _
     c.execute.ensures.ended c.execute.ensures.runs c.execute.ensures.survives
 
 pub returns-in_err-execute-in-Outbox-clause-within : goal.returns-in_err-execute-in-Outbox-clause-within
 returns-in_err-execute-in-Outbox-clause-within g c =
     let e = c.execute-in-Outbox in
-    ran_inside g.S.Store _ _ c.args.tx.now.conn.now e.new.self.conn.now e.result _ e.ensures.ended e.ensures.runs e.ensures.survives
+    ran_inside g.S.Store _ _ c.args.tx.now.conn.now e.new.self.conn.now e.result _ _ e.ensures.ended e.ensures.runs e.ensures.survives
 
 pub returns-in_ok-execute-in-Inbox-clause-put : goal.returns-in_ok-execute-in-Inbox-clause-put
 returns-in_ok-execute-in-Inbox-clause-put g c clean way has =
     let old = state g.S.Store c.args.tx.now.conn.now in
     let new = state g.S.Store c.execute.new.self.conn.now in
     let p : Piece = record { number = c.args.number; position = c.args.position; bytes = c.args.bytes.now } in
-    let ran = (made g.S.Store _ _ c.args.tx.now.conn.now c.execute.new.self.conn.now c.execute.result _ c.execute.ensures.ended
+    let ran = (made g.S.Store _ _ c.args.tx.now.conn.now c.execute.new.self.conn.now c.execute.result _ _ c.execute.ensures.ended
     (c.execute.ensures.runs clean) c.in_ok-execute-in-Inbox.field-0 c.in_ok-execute-in-Inbox.was).2 in
     let went : Executes (piece_put_text Inbox) (piece_shown p) old new (Ok c.in_ok-execute-in-Inbox.field-0) =
     rw (
@@ -47,7 +47,7 @@ returns-in_ok-execute-in-Outbox-clause-put g c clean way has =
     let e = c.execute-in-Outbox in
     let new = state g.S.Store e.new.self.conn.now in
     let p : Piece = record { number = c.args.number; position = c.args.position; bytes = c.args.bytes.now } in
-    let ran = (made g.S.Store _ _ c.args.tx.now.conn.now e.new.self.conn.now e.result _ e.ensures.ended
+    let ran = (made g.S.Store _ _ c.args.tx.now.conn.now e.new.self.conn.now e.result _ _ e.ensures.ended
     (e.ensures.runs clean) c.in_ok-execute-in-Outbox.field-0 c.in_ok-execute-in-Outbox.was).2 in
     let went : Executes (piece_put_text Outbox) (piece_shown p) old new (Ok c.in_ok-execute-in-Outbox.field-0) =
     rw (

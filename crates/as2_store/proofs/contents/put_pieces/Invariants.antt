@@ -14,7 +14,8 @@ invariant-pieces g l =
     let now = state g.S.Store l.tx.conn.now in
     (l.tx.conn.ghost_name ≡ l.fn.tx.conn.ghost_name)
     × (l.i * piece_size < length l.content + piece_size)
-    × IsInside old now
+    × (l.tx.at ≡ l.fn.tx.at)
+    × IsInside (l.fn.tx.at + 1) old now
     × (HasCleanDisk now → (way : Way) → old.now.schema ≡ store_schema way
     → AppendsPieces way old now (piece_tree way l.mailbox) (pieces_before l.number l.content l.i))
 

@@ -2,18 +2,22 @@ use Rattle.sqlite.specs.Held.{state}
 use Rattle.sqlite.specs.State.{Shown}
 use Rattle.as2_store.proofs.Statements.{meta_read_text}
 use Rattle.as2_store.proofs.Texts.{meta_read_plain}
-use Rattle.as2_store.proofs.Querying.{reads_less}
+use Rattle.as2_store.proofs.ReadsBy.{reads_less}
 use Rattle.std.proofs.Common.{[]}
 use Rattle.as2_store.proofs.MetaRow.{reads_meta}
 use Rattle.as2_store.proofs.counters.meta_rows.Goals as goal
 
-pub query_all-requires-clause-plain : goal.query_all-requires-clause-plain
-query_all-requires-clause-plain g c = λ way. meta_read_plain _ _
+pub query_all-requires : goal.query_all-requires
+query_all-requires g c = record {
+  plain = λ way. meta_read_plain _ _;
+}
 
-pub returns-clause-rows : goal.returns-clause-rows
-returns-clause-rows g c =
-    let old = state g.S.Store c.args.conn.now in
-    reads_less _ _ old (state g.S.Store c.query_all.new.conn) c.query_all.result
-    (λ s rows r shown.
-    let it : Shown meta_read_text [] old old rows.items = shown in
-    reads_meta old old rows.items it s r) c.query_all.ensures.shown
+pub returns : goal.returns
+returns g c = record {
+  rows =
+      let old = state g.S.Store c.args.conn.now in
+      reads_less _ _ old (state g.S.Store c.query_all.new.conn) c.query_all.result
+      (λ s rows r shown.
+      let it : Shown meta_read_text [] old old rows.items = shown in
+      reads_meta old old rows.items it s r) c.query_all.ensures.shown;
+}

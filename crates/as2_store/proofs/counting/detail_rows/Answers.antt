@@ -1,14 +1,18 @@
 use Rattle.sqlite.specs.Held.{state}
 use Rattle.as2_store.proofs.CountedRows.{finds_details}
-use Rattle.as2_store.proofs.Querying.{reads_less}
+use Rattle.as2_store.proofs.ReadsBy.{reads_less}
 use Rattle.as2_store.proofs.Texts.{detail_plain}
 use Rattle.as2_store.proofs.counting.detail_rows.Goals as goal
 
-pub query_all-requires-clause-plain : goal.query_all-requires-clause-plain
-query_all-requires-clause-plain g c = detail_plain
+pub query_all-requires : goal.query_all-requires
+query_all-requires g c = record {
+  plain = detail_plain;
+}
 
-pub returns-clause-rows : goal.returns-clause-rows
-returns-clause-rows g c =
-    let old = state g.S.Store c.args.conn.now in
-    reads_less _ _ old (state g.S.Store c.query_all.new.conn) c.query_all.result
-    (λ s rows r shown. finds_details old old rows.items shown s r) c.query_all.ensures.shown
+pub returns : goal.returns
+returns g c = record {
+  rows =
+      let old = state g.S.Store c.args.conn.now in
+      reads_less _ _ old (state g.S.Store c.query_all.new.conn) c.query_all.result
+      (λ s rows r shown. finds_details old old rows.items shown s r) c.query_all.ensures.shown;
+}

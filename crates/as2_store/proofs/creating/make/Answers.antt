@@ -14,12 +14,12 @@ use Rattle.as2_store.proofs.creating.make.Goals as goal
 
 -- the tables are made, and nothing is committed
 first : (g : Over) (c : After-make_tables g)
-    → IsInside (state g.S.Store (record c.args.conn.now { in_transaction = true })) (state g.S.Store c.make_tables.new.tx.conn.now)
+    → IsInside 0 (state g.S.Store (record c.args.conn.now { in_transaction = true })) (state g.S.Store c.make_tables.new.tx.conn.now)
 first g c = rw c.transaction-tx.ensures.begun at c.make_tables.ensures.within
 
 -- and the rows put in
 inside : (g : Over) (c : After-put_first g)
-    → IsInside (state g.S.Store (record c.args.conn.now { in_transaction = true })) (state g.S.Store c.put_first.new.tx.conn.now)
+    → IsInside 0 (state g.S.Store (record c.args.conn.now { in_transaction = true })) (state g.S.Store c.put_first.new.tx.conn.now)
 inside g c = inside_then _ (state g.S.Store c.make_tables.new.tx.conn.now) (state g.S.Store c.put_first.new.tx.conn.now)
     (first g (goal.at.After-put_first g c).After-make_tables) c.put_first.ensures.within
 

@@ -6,7 +6,7 @@ use Rattle.as2_records.specs.Listing.{listed_rows}
 use Rattle.as2_records.specs.Summaries.{in_summary}
 use Rattle.as2_records.specs.declared.discrepancy.Discrepancy.{Discrepancy}
 use Rattle.as2_store.proofs.ComparedRows.{AreBelow, are_below, none_first}
-use Rattle.as2_store.proofs.Querying.{read_bad, read_if, read_then, reads_standing}
+use Rattle.as2_store.proofs.ReadsBy.{read_bad, read_if, read_then, reads_standing}
 use Rattle.as2_store.proofs.discrepancies.discrepancy.Goals as goal
 
 pub returns-in_err-received-clause-none : goal.returns-in_err-received-clause-none

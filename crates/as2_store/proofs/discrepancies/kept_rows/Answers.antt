@@ -1,7 +1,7 @@
 use Rattle.std.proofs.Common.{◌∙◌}
 use Rattle.as2_store.specs.Discrepancies.{rows_of}
 use Rattle.as2_store.specs.Stands.{all_waiting}
-use Rattle.as2_store.proofs.Querying.{mapped, read_if}
+use Rattle.as2_store.proofs.ReadsBy.{mapped, read_if}
 use Rattle.as2_store.proofs.discrepancies.kept_rows.Goals as goal
 
 pub returns-clause-kept : goal.returns-clause-kept

@@ -1,7 +1,8 @@
 use Rattle.std.proofs.Common.{rules, ◌≡◌, ◌∙◌, sym, ap, Some, None, Ok, slice_get}
 use Rattle.as2_store.specs.Finding.{evidence_at}
 use Rattle.as2_store.proofs.OutboxQueries.{no_evidence, some_evidence}
-use Rattle.as2_store.proofs.Querying.{mapped, read_ok, told_ok}
+use Rattle.as2_store.proofs.Querying.{told_ok}
+use Rattle.as2_store.proofs.ReadsBy.{mapped, read_ok}
 use Rattle.as2_store.proofs.documents.evidence_in.Goals as goal
 
 pub returns-in_default-clause-evidence : goal.returns-in_default-clause-evidence

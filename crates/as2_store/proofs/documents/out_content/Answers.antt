@@ -1,5 +1,5 @@
 use Rattle.std.proofs.Common.{◌∙◌}
-use Rattle.as2_store.proofs.Querying.{mapped, read_told}
+use Rattle.as2_store.proofs.ReadsBy.{mapped, read_told}
 use Rattle.as2_store.proofs.documents.out_content.Goals as goal
 
 pub returns-clause-content : goal.returns-clause-content

@@ -8,7 +8,8 @@ use Rattle.as2_records.specs.declared.summaries.OutRow.{OutRow}
 use Rattle.as2_store.specs.Finding.{evidence_at}
 use Rattle.as2_store.proofs.QueriedRows.{none_first, some_first}
 use Rattle.as2_store.proofs.OutboxQueries.{document_is, own_evidence}
-use Rattle.as2_store.proofs.Querying.{read_ok, read_then, read_bad, reads_standing, told_ok, unread}
+use Rattle.as2_store.proofs.Querying.{told_ok}
+use Rattle.as2_store.proofs.ReadsBy.{read_ok, read_then, read_bad, reads_standing, unread}
 use Rattle.as2_store.proofs.documents.shown_document.Goals as goal
 
 pub returns-in_default-clause-found : goal.returns-in_default-clause-found

@@ -3,7 +3,7 @@ use Rattle.as2_exchange.specs.Due.{least}
 use Rattle.as2_rows.specs.Waiting.{kind_code}
 use Rattle.as2_records.specs.Due.{numbers_behind}
 use Rattle.as2_store.specs.Due.{due_numbers}
-use Rattle.as2_store.proofs.Querying.{mapped, read_bad, read_then, read_told, reads_told}
+use Rattle.as2_store.proofs.ReadsBy.{mapped, read_bad, read_then, read_told, reads_told}
 use Rattle.as2_store.proofs.due.least_due.Goals as goal
 
 pub returns-in_err-rows-clause-due : goal.returns-in_err-rows-clause-due

@@ -2,7 +2,8 @@ use Rattle.std.proofs.Common.{rules, ◌≡◌, ◌∙◌, sym, ap, ap₂, Some,
 use Rattle.as2_rows.specs.Rows.{in_shown}
 use Rattle.as2_records.specs.Summaries.{in_summary, in_entry}
 use Rattle.as2_store.proofs.QueriedRows.{none_first, some_first}
-use Rattle.as2_store.proofs.Querying.{read_ok, told_ok, unread}
+use Rattle.as2_store.proofs.Querying.{told_ok}
+use Rattle.as2_store.proofs.ReadsBy.{read_ok, unread}
 use Rattle.as2_store.proofs.entries.shown_entry.Goals as goal
 
 pub returns-in_default-clause-found : goal.returns-in_default-clause-found

@@ -11,7 +11,7 @@ use Rattle.as2_store.proofs.expiring.pass.Goals as goal
 
 pub returns-in_err-execute-clause-within : goal.returns-in_err-execute-clause-within
 returns-in_err-execute-clause-within g c =
-    ran_inside g.S.Store _ _ c.args.tx.now.conn.now c.execute.new.self.conn.now c.execute.result _
+    ran_inside g.S.Store _ _ c.args.tx.now.conn.now c.execute.new.self.conn.now c.execute.result _ _
     c.execute.ensures.ended c.execute.ensures.runs c.execute.ensures.survives
 
 pub returns-clause-put : goal.returns-clause-put
@@ -20,7 +20,7 @@ returns-clause-put g c clean way ds it =
     let new = state g.S.Store c.execute.new.self.conn.now in
     let n = c.args.number in
     let detail = c.args.detail in
-    let ran = (made g.S.Store _ _ c.args.tx.now.conn.now c.execute.new.self.conn.now c.execute.result _ c.execute.ensures.ended
+    let ran = (made g.S.Store _ _ c.args.tx.now.conn.now c.execute.new.self.conn.now c.execute.result _ _ c.execute.ensures.ended
     (c.execute.ensures.runs clean) c.in_ok-execute.field-0 c.in_ok-execute.was).2 in
     let went : Executes out_pass_text (pass_params n detail) old new (Ok c.in_ok-execute.field-0) =
     rw (
@@ -35,5 +35,5 @@ returns-clause-put g c clean way ds it =
 
 pub returns-clause-inside : goal.returns-clause-inside
 returns-clause-inside g c clean =
-    stays g.S.Store _ _ c.args.tx.now.conn.now c.execute.new.self.conn.now c.execute.result _ c.execute.ensures.ended
+    stays g.S.Store _ _ c.args.tx.now.conn.now c.execute.new.self.conn.now c.execute.result _ _ c.execute.ensures.ended
     (c.execute.ensures.runs clean) c.in_ok-execute.field-0 c.in_ok-execute.was

@@ -7,6 +7,7 @@ use Rattle.as2_store.specs.Due.{due_numbers, number_row}
 use Rattle.as2_store.specs.Tables.{VersionThree}
 use Rattle.as2_store.specs.Stands.{Stands, all_waiting}
 use Rattle.as2_store.proofs.PassedTables.{documents_of, due_count, due_small, no_number, no_row, none_over, stands_passed, waits_of}
+use Rattle.as2_store.proofs.Committing.{inside_at}
 use Rattle.as2_store.proofs.expiring.pass_due.Goals as goal
 
 pub returns-then-is_empty-clause-passed : goal.returns-then-is_empty-clause-passed
@@ -40,3 +41,24 @@ returns-clause-passed g c clean way s stood =
       ap length (c.as_slice-rows.ensures.value ∙ found.1)
           ∙ length-map (due_numbers kind m s) number_row ∙ due_count kind m detail c.requires.passes s,
     )
+
+pub returns-in_err-take_due-clause-within : goal.returns-in_err-take_due-clause-within
+returns-in_err-take_due-clause-within g c =
+    let old = state g.S.Store c.args.tx.now.conn.now in
+    inside_at old (state g.S.Store c.pass_each.new.tx.conn.now) (state g.S.Store c.take_due.new.tx.conn.now) c.args.tx.now.at c.pass_each.new.tx.at
+    (c.pass_each.ensures.place ∙ c.due_rows.ensures.place)
+    (inside_at old (state g.S.Store c.due_rows.new.tx.conn.now) (state g.S.Store c.pass_each.new.tx.conn.now) c.args.tx.now.at c.due_rows.new.tx.at c.due_rows.ensures.place
+    c.due_rows.ensures.within c.pass_each.ensures.within) c.take_due.ensures.within
+
+pub returns-clause-within : goal.returns-clause-within
+returns-clause-within g c =
+    let old = state g.S.Store c.args.tx.now.conn.now in
+    inside_at old (state g.S.Store c.pass_each.new.tx.conn.now) (state g.S.Store c.take_due.new.tx.conn.now) c.args.tx.now.at c.pass_each.new.tx.at
+    (c.pass_each.ensures.place ∙ c.due_rows.ensures.place)
+    (inside_at old (state g.S.Store c.due_rows.new.tx.conn.now) (state g.S.Store c.pass_each.new.tx.conn.now) c.args.tx.now.at c.due_rows.new.tx.at c.due_rows.ensures.place
+    c.due_rows.ensures.within c.pass_each.ensures.within) c.take_due.ensures.within
+
+pub returns-in_err-pass_each-clause-within : goal.returns-in_err-pass_each-clause-within
+returns-in_err-pass_each-clause-within g c =
+    inside_at (state g.S.Store c.args.tx.now.conn.now) (state g.S.Store c.due_rows.new.tx.conn.now) (state g.S.Store c.pass_each.new.tx.conn.now) c.args.tx.now.at c.due_rows.new.tx.at c.due_rows.ensures.place
+    c.due_rows.ensures.within c.pass_each.ensures.within

@@ -1,4 +1,4 @@
-use Rattle.std.proofs.Common.{◌∙◌, ◌<◌, map, take, get_or, length, refl, sym, ap, subst, arith}
+use Rattle.std.proofs.Common.{◌∙◌, ◌+◌, ◌<◌, map, take, get_or, length, refl, sym, ap, subst, arith}
 use Rattle.std.proofs.lemmas.List.{length-map}
 use Rattle.sqlite.specs.Held.{state}
 use Rattle.sqlite.specs.Order.{column}
@@ -7,6 +7,7 @@ use Rattle.as2_rows.specs.Rows.{out_row}
 use Rattle.as2_store.specs.Tables.{store_schema, outbox_tree}
 use Rattle.as2_store.specs.Due.{number_row}
 use Rattle.as2_store.specs.Expiring.{RewritesDocuments, passed_documents, passing_one}
+use Rattle.as2_store.specs.Calls.{IsInside}
 use Rattle.as2_store.proofs.Committing.{inside_then}
 use Rattle.as2_store.proofs.Querying.{nothing_inside}
 use Rattle.as2_store.proofs.PassedDocuments.{none_passed, one_more_passed}
@@ -16,6 +17,7 @@ use Rattle.as2_store.proofs.expiring.pass_each.Goals as goal
 pub rows-init : goal.rows-init
 rows-init g c =
     let old = state g.S.Store c.args.tx.now.conn.now in (
+      refl,
       refl,
       nothing_inside old,
       λ clean way ns ds small all held. subst (RewritesDocuments way old old) (sym (none_passed c.args.detail ds)) (none_rewritten way old ds held),
@@ -30,9 +32,10 @@ rows-preserved g c =
     let detail = c.args.detail in
     let i = c.rows.row-index in (
       c.pass.ensures.same_reference ∙ so_far.0,
-      inside_then old mid new so_far.1 c.pass.ensures.within,
+      c.pass.ensures.place ∙ so_far.1,
+      inside_then old mid new so_far.2 (subst (λ at. IsInside (at + 1) mid new) so_far.1 c.pass.ensures.within),
       λ clean way ns ds small all held.
-          let before = so_far.2 (c.pass.ensures.within.clean clean) way ns ds small all held in
+          let before = so_far.3 (c.pass.ensures.within.clean clean) way ns ds small all held in
           let n = get_or ns i 0 in
           let within : i < length ns = omega (arith, c.rows-test.true, ap length all, length-map ns number_row) in
           let shown = number_here c.args.rows.now ns i c.row-item.result c.in_ok-number.number all c.rows-test.true
@@ -50,4 +53,4 @@ returns-clause-put g c clean way ns ds small all held =
     let old = state g.S.Store c.args.tx.now.conn.now in
     let new = state g.S.Store c.rows.tx.conn.now in
     subst (RewritesDocuments way old new) (all_passed c.args.detail c.args.rows.now ns c.rows.row-index ds all (omega (arith, c.rows-test.false)))
-    (c.rows.invariant.2 clean way ns ds small all held)
+    (c.rows.invariant.3 clean way ns ds small all held)

@@ -1,4 +1,4 @@
-use Rattle.std.proofs.Common.{◌≡◌, ◌<◌, ℕ, List, map, take}
+use Rattle.std.proofs.Common.{◌≡◌, ◌+◌, ◌<◌, ℕ, List, map, take}
 use Rattle.std.specs.List.{AllByRecursion}
 use Rattle.sqlite.specs.Held.{state}
 use Rattle.sqlite.specs.State.{HasCleanDisk}
@@ -16,6 +16,7 @@ invariant-rows g l =
     let old = state g.S.Store l.fn.tx.conn.now in
     let now = state g.S.Store l.tx.conn.now in
     (l.tx.conn.ghost_name ≡ l.fn.tx.conn.ghost_name)
-    × IsInside old now
+    × (l.tx.at ≡ l.fn.tx.at)
+    × IsInside (l.fn.tx.at + 1) old now
     × (HasCleanDisk now → (way : Way) (ns : List ℕ) (ds : List OutEntry) → AllByRecursion (λ n. n < end_of_numbers) ns → l.rows ≡ map number_row ns
     → HoldsDocuments way old.now ds → RewritesDocuments way old now (passed_documents l.detail (take l.row-index ns) ds))

@@ -12,7 +12,7 @@ use Rattle.as2_store.proofs.expiring.take_due.Goals as goal
 
 pub returns-in_err-execute-clause-within : goal.returns-in_err-execute-clause-within
 returns-in_err-execute-clause-within g c =
-    ran_inside g.S.Store _ _ c.args.tx.now.conn.now c.execute.new.self.conn.now c.execute.result _
+    ran_inside g.S.Store _ _ c.args.tx.now.conn.now c.execute.new.self.conn.now c.execute.result _ _
     c.execute.ensures.ended c.execute.ensures.runs c.execute.ensures.survives
 
 pub returns-clause-put : goal.returns-clause-put
@@ -22,7 +22,7 @@ returns-clause-put g c clean way ws it =
     let kind = kind_code c.args.wait in
     let m = c.args.moment in
     let most : kind ≤ 4 = rw c.code.ensures.code at c.code.ensures.most in
-    let ran = (made g.S.Store _ _ c.args.tx.now.conn.now c.execute.new.self.conn.now c.execute.result _ c.execute.ensures.ended
+    let ran = (made g.S.Store _ _ c.args.tx.now.conn.now c.execute.new.self.conn.now c.execute.result _ _ c.execute.ensures.ended
     (c.execute.ensures.runs clean) c.in_ok-execute.field-0 c.in_ok-execute.was).2 in
     let went : Executes waiting_take_due_text (any_params kind m) old new (Ok c.in_ok-execute.field-0) =
     rw (
@@ -39,5 +39,5 @@ returns-clause-put g c clean way ws it =
 
 pub returns-clause-inside : goal.returns-clause-inside
 returns-clause-inside g c clean =
-    stays g.S.Store _ _ c.args.tx.now.conn.now c.execute.new.self.conn.now c.execute.result _ c.execute.ensures.ended
+    stays g.S.Store _ _ c.args.tx.now.conn.now c.execute.new.self.conn.now c.execute.result _ _ c.execute.ensures.ended
     (c.execute.ensures.runs clean) c.in_ok-execute.field-0 c.in_ok-execute.was

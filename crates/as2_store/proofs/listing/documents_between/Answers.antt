@@ -63,7 +63,7 @@ returns-in_default-clause-documents g c =
     c.advance.ensures.survives c.rows.documents c.requires.open c.in-Ok-advance.ensures.same
     (λ clean. subst (Advances g.S.Store mid now) none (c.in-Ok-advance.ensures.ok clean))
     (λ given s stood all read.
-    read _ (lists_between c.args.wanted (state g.S.Store mid) (state g.S.Store now) given (rw c.requires.codes at all) s stood)
+    read _ (lists_between c.args.wanted (state g.S.Store mid) (state g.S.Store now) given (rw c.requires.codes at all) s stood.stands)
     ∙ ap (map out_summary) (none_lost c.args.wanted s.outbox))
 
 pub returns-in_err-document-clause-documents : goal.returns-in_err-document-clause-documents

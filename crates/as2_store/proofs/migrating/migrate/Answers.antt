@@ -19,14 +19,14 @@ use Rattle.as2_store.proofs.migrating.migrate.Goals as goal
 
 -- the query ran, and nothing is committed
 inside : (g : Over) (c : After-query_all g)
-    → IsInside (state g.S.Store (record c.args.conn.now { in_transaction = true })) (state g.S.Store c.query_all.new.self.conn.now)
+    → IsInside 0 (state g.S.Store (record c.args.conn.now { in_transaction = true })) (state g.S.Store c.query_all.new.self.conn.now)
 inside g c =
     queried_first g.S.Store c.args.conn.now _ (λ rows. rows.items) meta_read_text [] (state g.S.Store c.query_all.new.self.conn.now) c.query_all.result
     c.transaction-tx.ensures.begun c.query_all.ensures.ok c.query_all.ensures.err c.query_all.ensures.survives
 
 -- the statements ran too
 moved : (g : Over) (c : After-move_tables g)
-    → IsInside (state g.S.Store (record c.args.conn.now { in_transaction = true })) (state g.S.Store c.move_tables.new.tx.conn.now)
+    → IsInside 0 (state g.S.Store (record c.args.conn.now { in_transaction = true })) (state g.S.Store c.move_tables.new.tx.conn.now)
 moved g c = inside_then _ (state g.S.Store c.query_all.new.self.conn.now) (state g.S.Store c.move_tables.new.tx.conn.now)
     (inside g (goal.at.After-move_tables g c).After-query_all) c.move_tables.ensures.within
 

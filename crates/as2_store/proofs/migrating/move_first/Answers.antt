@@ -2,6 +2,7 @@ use Rattle.sqlite.specs.Held.{state}
 use Rattle.as2_records.specs.Standing.{IsCounted}
 use Rattle.as2_store.specs.Tables.{Migrated}
 use Rattle.as2_store.proofs.MigratedTables.{originated}
+use Rattle.as2_store.proofs.Committing.{inside_then}
 use Rattle.as2_store.proofs.migrating.move_first.Goals as goal
 
 pub returns-clause-moved : goal.returns-clause-moved
@@ -16,3 +17,13 @@ returns-clause-moved g c clean s it is =
     originated (state g.S.Store c.args.tx.now.conn.now) (state g.S.Store c.empty_first.new.tx.conn.now)
     (state g.S.Store c.put_origin.new.tx.conn.now) s c.args.next it is moved
     (c.in_ok-put_origin.ensures.put clean Migrated moved.schema moved.no_origin)
+
+pub returns-in_err-put_origin-clause-within : goal.returns-in_err-put_origin-clause-within
+returns-in_err-put_origin-clause-within g c =
+    let old = state g.S.Store c.args.tx.now.conn.now in
+    inside_then old (state g.S.Store c.empty_first.new.tx.conn.now) (state g.S.Store c.put_origin.new.tx.conn.now) (inside_then old (state g.S.Store c.move_contents.new.tx.conn.now) (state g.S.Store c.empty_first.new.tx.conn.now) (inside_then old (state g.S.Store c.copy_inbox.new.tx.conn.now) (state g.S.Store c.move_contents.new.tx.conn.now) (inside_then old (state g.S.Store c.make_beside.new.tx.conn.now) (state g.S.Store c.copy_inbox.new.tx.conn.now) c.make_beside.ensures.within c.copy_inbox.ensures.within) c.move_contents.ensures.within) c.empty_first.ensures.within) c.put_origin.ensures.within
+
+pub returns-clause-within : goal.returns-clause-within
+returns-clause-within g c =
+    let old = state g.S.Store c.args.tx.now.conn.now in
+    inside_then old (state g.S.Store c.empty_first.new.tx.conn.now) (state g.S.Store c.put_origin.new.tx.conn.now) (inside_then old (state g.S.Store c.move_contents.new.tx.conn.now) (state g.S.Store c.empty_first.new.tx.conn.now) (inside_then old (state g.S.Store c.copy_inbox.new.tx.conn.now) (state g.S.Store c.move_contents.new.tx.conn.now) (inside_then old (state g.S.Store c.make_beside.new.tx.conn.now) (state g.S.Store c.copy_inbox.new.tx.conn.now) c.make_beside.ensures.within c.copy_inbox.ensures.within) c.move_contents.ensures.within) c.empty_first.ensures.within) c.put_origin.ensures.within

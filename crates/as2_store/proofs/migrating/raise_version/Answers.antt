@@ -9,7 +9,7 @@ use Rattle.as2_store.proofs.migrating.raise_version.Goals as goal
 
 pub returns-in_err-execute-clause-within : goal.returns-in_err-execute-clause-within
 returns-in_err-execute-clause-within g c =
-    ran_inside g.S.Store _ _ c.args.tx.now.conn.now c.execute.new.self.conn.now c.execute.result _
+    ran_inside g.S.Store _ _ c.args.tx.now.conn.now c.execute.new.self.conn.now c.execute.result _ _
     c.execute.ensures.ended c.execute.ensures.runs c.execute.ensures.survives
 
 pub returns-clause-raised : goal.returns-clause-raised
@@ -17,11 +17,11 @@ returns-clause-raised g c clean number way s it =
     let old = state g.S.Store c.args.tx.now.conn.now in
     let new = state g.S.Store c.execute.new.self.conn.now in
     let went : Executes version_text [] old new (Ok c.in_ok-execute.field-0) =
-    (made g.S.Store _ _ c.args.tx.now.conn.now c.execute.new.self.conn.now c.execute.result _ c.execute.ensures.ended
+    (made g.S.Store _ _ c.args.tx.now.conn.now c.execute.new.self.conn.now c.execute.result _ _ c.execute.ensures.ended
     (c.execute.ensures.runs clean) c.in_ok-execute.field-0 c.in_ok-execute.was).2 in
     stands_raised number way old new s it (raises_version way old new number s.next_in s.next_out c.in_ok-execute.field-0 it.schema it.meta went)
 
 pub returns-clause-inside : goal.returns-clause-inside
 returns-clause-inside g c clean =
-    stays g.S.Store _ _ c.args.tx.now.conn.now c.execute.new.self.conn.now c.execute.result _ c.execute.ensures.ended
+    stays g.S.Store _ _ c.args.tx.now.conn.now c.execute.new.self.conn.now c.execute.result _ _ c.execute.ensures.ended
     (c.execute.ensures.runs clean) c.in_ok-execute.field-0 c.in_ok-execute.was

@@ -3,17 +3,21 @@ use Rattle.sqlite.specs.Held.{state}
 use Rattle.sqlite.specs.State.{Shown}
 use Rattle.as2_store.proofs.Statements.{origin_read_text}
 use Rattle.as2_store.proofs.Texts.{origin_read_plain}
-use Rattle.as2_store.proofs.Querying.{reads_less}
+use Rattle.as2_store.proofs.ReadsBy.{reads_less}
 use Rattle.as2_store.proofs.OriginRow.{reads_origin}
 use Rattle.as2_store.proofs.origin.origin_rows.Goals as goal
 
-pub query_all-requires-clause-plain : goal.query_all-requires-clause-plain
-query_all-requires-clause-plain g c = origin_read_plain
+pub query_all-requires : goal.query_all-requires
+query_all-requires g c = record {
+  plain = origin_read_plain;
+}
 
-pub returns-clause-rows : goal.returns-clause-rows
-returns-clause-rows g c =
-    let old = state g.S.Store c.args.conn.now in
-    reads_less _ _ old (state g.S.Store c.query_all.new.conn) c.query_all.result
-    (λ s rows r shown.
-    let it : Shown origin_read_text [] old old rows.items = shown in
-    reads_origin old old rows.items it s r) c.query_all.ensures.shown
+pub returns : goal.returns
+returns g c = record {
+  rows =
+      let old = state g.S.Store c.args.conn.now in
+      reads_less _ _ old (state g.S.Store c.query_all.new.conn) c.query_all.result
+      (λ s rows r shown.
+      let it : Shown origin_read_text [] old old rows.items = shown in
+      reads_origin old old rows.items it s r) c.query_all.ensures.shown;
+}

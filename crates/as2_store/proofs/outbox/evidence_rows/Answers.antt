@@ -2,22 +2,26 @@ use Rattle.sqlite.specs.Held.{state}
 use Rattle.sqlite.specs.State.{Shown}
 use Rattle.as2_store.proofs.Statements.{evidence_by_number_text}
 use Rattle.as2_store.proofs.Texts.{evidence_by_number_plain}
-use Rattle.as2_store.proofs.Querying.{reads_less}
+use Rattle.as2_store.proofs.ReadsBy.{reads_less}
 use Rattle.as2_store.proofs.MetaRow.{fits_i64}
 use Rattle.as2_store.proofs.InboxQueries.{by_number_params, asked_small}
 use Rattle.as2_store.proofs.OutboxQueries.{finds_evidence}
 use Rattle.as2_store.proofs.outbox.evidence_rows.Goals as goal
 
-pub query_all-requires-clause-plain : goal.query_all-requires-clause-plain
-query_all-requires-clause-plain g c = evidence_by_number_plain
+pub query_all-requires : goal.query_all-requires
+query_all-requires g c = record {
+  plain = evidence_by_number_plain;
+}
 
-pub returns-clause-rows : goal.returns-clause-rows
-returns-clause-rows g c =
-    let old = state g.S.Store c.args.conn.now in
-    let w = c.asked-wanted.result in
-    let fits = asked_small c.args.number w c.asked-wanted.ensures.beyond c.asked-wanted.ensures.within in
-    reads_less _ _ old (state g.S.Store c.query_all.new.conn) c.query_all.result
-    (λ s rows r shown.
-    let it : Shown evidence_by_number_text (by_number_params w) old old rows.items =
-    rw (c.params-to_sql.ensures, c.whole-param.ensures, fits_i64 w fits) at shown in
-    finds_evidence c.args.number w c.asked-wanted.ensures.beyond c.asked-wanted.ensures.within old old rows.items it s r) c.query_all.ensures.shown
+pub returns : goal.returns
+returns g c = record {
+  rows =
+      let old = state g.S.Store c.args.conn.now in
+      let w = c.asked-wanted.result in
+      let fits = asked_small c.args.number w c.asked-wanted.ensures.beyond c.asked-wanted.ensures.within in
+      reads_less _ _ old (state g.S.Store c.query_all.new.conn) c.query_all.result
+      (λ s rows r shown.
+      let it : Shown evidence_by_number_text (by_number_params w) old old rows.items =
+      rw (c.params-to_sql.ensures, c.whole-param.ensures, fits_i64 w fits) at shown in
+      finds_evidence c.args.number w c.asked-wanted.ensures.beyond c.asked-wanted.ensures.within old old rows.items it s r) c.query_all.ensures.shown;
+}

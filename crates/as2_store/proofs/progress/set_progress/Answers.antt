@@ -13,7 +13,7 @@ use Rattle.as2_store.proofs.progress.set_progress.Goals as goal
 
 pub returns-clause-within : goal.returns-clause-within
 returns-clause-within g c =
-    ran_inside g.S.Store _ _ c.args.tx.now.conn.now c.execute.new.self.conn.now c.execute.result _
+    ran_inside g.S.Store _ _ c.args.tx.now.conn.now c.execute.new.self.conn.now c.execute.result _ _
     c.execute.ensures.ended c.execute.ensures.runs c.execute.ensures.survives
 
 pub returns-clause-put : goal.returns-clause-put
@@ -22,7 +22,7 @@ returns-clause-put g c clean = if_made c.execute.result _ (λ count is way s it.
     let new = state g.S.Store c.execute.new.self.conn.now in
     let n = c.args.number in
     let p = c.args.progress in
-    let ran = (made g.S.Store _ _ c.args.tx.now.conn.now c.execute.new.self.conn.now c.execute.result _ c.execute.ensures.ended
+    let ran = (made g.S.Store _ _ c.args.tx.now.conn.now c.execute.new.self.conn.now c.execute.result _ _ c.execute.ensures.ended
     (c.execute.ensures.runs clean) count is).2 in
     let went : Executes out_set_text (set_params n p) old new (Ok count) =
     rw (

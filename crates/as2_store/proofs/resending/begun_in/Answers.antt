@@ -1,7 +1,7 @@
 use Rattle.std.proofs.Common.{◌≡◌, ◌∙◌, ◌==◌, true, false, not, nat_le, sym, ap, arith}
 use Rattle.std.proofs.lemmas.Bool.Decides.{nat_tests}
 use Rattle.sqlite.specs.Held.{state}
-use Rattle.as2_store.proofs.Querying.{mapped}
+use Rattle.as2_store.proofs.ReadsBy.{mapped}
 use Rattle.as2_store.proofs.ResentTables.{some_rows, tells_by_row, tells_by_tries}
 use Rattle.as2_store.proofs.resending.begun_in.Goals as goal
 

@@ -5,6 +5,7 @@ use Rattle.as2_store.specs.Due.{number_row}
 use Rattle.as2_store.specs.Resending.{tried_numbers}
 use Rattle.as2_store.proofs.PassedTables.{no_number, no_row}
 use Rattle.as2_store.proofs.ResentTables.{holds_resent, ready_tried, ready_untried}
+use Rattle.as2_store.proofs.Committing.{inside_at}
 use Rattle.as2_store.proofs.resending.mark.Goals as goal
 
 pub returns-then-is_empty-clause-marked : goal.returns-then-is_empty-clause-marked
@@ -31,3 +32,11 @@ returns-clause-marked g c clean way s stood =
     let taken = c.in_ok-take_resent.ensures.put was_one way _ (holds_resent old mid s stood found.0) in
     let put = c.in_ok-put_resent.ensures.put clean way taken.schema_is in
     ready_tried way old mid one new s n stood found.0 some taken put
+
+pub returns-clause-within : goal.returns-clause-within
+returns-clause-within g c =
+    let old = state g.S.Store c.args.tx.now.conn.now in
+    inside_at old (state g.S.Store c.take_resent.new.tx.conn.now) (state g.S.Store c.put_resent.new.tx.conn.now) c.args.tx.now.at c.take_resent.new.tx.at
+    (c.take_resent.ensures.place ∙ c.tried_rows.ensures.place)
+    (inside_at old (state g.S.Store c.tried_rows.new.tx.conn.now) (state g.S.Store c.take_resent.new.tx.conn.now) c.args.tx.now.at c.tried_rows.new.tx.at c.tried_rows.ensures.place
+    c.tried_rows.ensures.within c.take_resent.ensures.within) c.put_resent.ensures.within

@@ -11,7 +11,7 @@ use Rattle.as2_store.proofs.waiting.put_waiting.Goals as goal
 
 pub returns-in_err-execute-clause-within : goal.returns-in_err-execute-clause-within
 returns-in_err-execute-clause-within g c =
-    ran_inside g.S.Store _ _ c.args.tx.now.conn.now c.execute.new.self.conn.now c.execute.result _
+    ran_inside g.S.Store _ _ c.args.tx.now.conn.now c.execute.new.self.conn.now c.execute.result _ _
     c.execute.ensures.ended c.execute.ensures.runs c.execute.ensures.survives
 
 pub returns-clause-put : goal.returns-clause-put
@@ -20,7 +20,7 @@ returns-clause-put g c clean way has =
     let new = state g.S.Store c.execute.new.self.conn.now in
     let w : WaitingRow = record { kind = kind_code c.args.wait; number = c.args.number; due = c.args.due } in
     let most : kind_code c.args.wait ≤ 4 = rw c.code-kind.ensures.code at c.code-kind.ensures.most in
-    let ran = (made g.S.Store _ _ c.args.tx.now.conn.now c.execute.new.self.conn.now c.execute.result _ c.execute.ensures.ended
+    let ran = (made g.S.Store _ _ c.args.tx.now.conn.now c.execute.new.self.conn.now c.execute.result _ _ c.execute.ensures.ended
     (c.execute.ensures.runs clean) c.in_ok-execute.field-0 c.in_ok-execute.was).2 in
     let went : Executes waiting_put_text (waiting_params w) old new (Ok c.in_ok-execute.field-0) =
     rw (
@@ -42,5 +42,5 @@ returns-clause-put g c clean way has =
 
 pub returns-clause-inside : goal.returns-clause-inside
 returns-clause-inside g c clean =
-    stays g.S.Store _ _ c.args.tx.now.conn.now c.execute.new.self.conn.now c.execute.result _ c.execute.ensures.ended
+    stays g.S.Store _ _ c.args.tx.now.conn.now c.execute.new.self.conn.now c.execute.result _ _ c.execute.ensures.ended
     (c.execute.ensures.runs clean) c.in_ok-execute.field-0 c.in_ok-execute.was

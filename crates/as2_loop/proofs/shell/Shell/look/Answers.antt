@@ -9,8 +9,7 @@ returns-in_err-look_at_all g c = record { lives = on_then g.K.Records.shows c.ar
 
 pub returns : goal.returns
 returns g c = record {
-  lives = on_then g.K.Records.shows c.args.live.now c.look_at_links.new.live c.tick-said.new.self
-      (on_then g.K.Records.shows c.args.live.now c.look_at_all.new.live c.look_at_links.new.live
+  lives = on_then g.K.Records.shows c.args.live.now c.look_at_all.new.live c.tick-said.new.self
       (on_then g.K.Records.shows c.args.live.now c.give_room.new.live c.look_at_all.new.live c.give_room.ensures.lives c.look_at_all.ensures.lives)
-      c.look_at_links.ensures.lives) (_, c.tick-said.ensures.ticks);
+      (_, c.tick-said.ensures.ticks);
 }

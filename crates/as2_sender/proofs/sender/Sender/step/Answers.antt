@@ -13,3 +13,7 @@ returns-in-Read g c = record { lives = (_, c.link_heard.ensures.lives) }
 
 pub returns-in-Ended : goal.returns-in-Ended
 returns-in-Ended g c = record { lives = (_, c.link_cut.ensures.lives) }
+
+-- it is over, and that is noted
+pub returns-in-Over : goal.returns-in-Over
+returns-in-Over g c = record { lives = on_none g.K.Records.shows c.args.live.now }

@@ -2,7 +2,7 @@ use Rattle.std.proofs.Common.{◌≡◌, ◌∙◌, ap}
 use Rattle.sqlite.specs.Held.{state}
 use Rattle.as2_records.specs.Counting.{counts_of}
 use Rattle.as2_store.specs.Counting.{details_of}
-use Rattle.as2_store.proofs.Querying.{read_bad, read_of, read_ok, read_then}
+use Rattle.as2_store.proofs.ReadsBy.{read_bad, read_of, read_ok, read_then}
 use Rattle.as2_store.proofs.store.Store.counts.Goals as goal
 
 pub returns-in_err-receipt_stages-clause-counts : goal.returns-in_err-receipt_stages-clause-counts

@@ -1,6 +1,6 @@
 use Rattle.std.proofs.Common.{ap}
 use Rattle.sqlite.specs.Held.{state}
-use Rattle.as2_store.proofs.Querying.{read_of}
+use Rattle.as2_store.proofs.ReadsBy.{read_of}
 use Rattle.as2_store.proofs.store.Store.discrepancy.Goals as goal
 
 pub returns-clause-none : goal.returns-clause-none

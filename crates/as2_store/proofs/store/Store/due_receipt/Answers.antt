@@ -3,7 +3,7 @@ use Rattle.sqlite.specs.Held.{state}
 use Rattle.as2_exchange.specs.Due.{least}
 use Rattle.as2_records.specs.Due.{numbers_behind}
 use Rattle.as2_store.proofs.DueEntries.{due_are_receipts}
-use Rattle.as2_store.proofs.Querying.{read_of, reads_less}
+use Rattle.as2_store.proofs.ReadsBy.{read_of, reads_less}
 use Rattle.as2_store.proofs.store.Store.due_receipt.Goals as goal
 
 pub returns-clause-due : goal.returns-clause-due

@@ -2,7 +2,7 @@ use Rattle.std.proofs.Common.{◌∙◌, ap}
 use Rattle.sqlite.specs.Held.{state}
 use Rattle.as2_exchange.specs.Readings.{value_of}
 use Rattle.as2_store.specs.Finding.{has_id}
-use Rattle.as2_store.proofs.Querying.{mapped, read_of, read_then}
+use Rattle.as2_store.proofs.ReadsBy.{mapped, read_of, read_then}
 use Rattle.as2_store.proofs.store.Store.find_out_by_id.Goals as goal
 
 pub returns-clause-found : goal.returns-clause-found

@@ -1,6 +1,6 @@
 use Rattle.std.proofs.Common.{ap}
 use Rattle.sqlite.specs.Held.{state}
-use Rattle.as2_store.proofs.Querying.{mapped, read_of, read_then}
+use Rattle.as2_store.proofs.ReadsBy.{mapped, read_of, read_then}
 use Rattle.as2_store.proofs.store.Store.list_out.Goals as goal
 
 pub returns-clause-documents : goal.returns-clause-documents

@@ -1,7 +1,7 @@
 use Rattle.std.proofs.Common.{ap}
 use Rattle.sqlite.specs.Held.{state}
 use Rattle.as2_records.specs.Requeuing.{requeued_in}
-use Rattle.as2_store.proofs.Committing.{write_of, write_told}
+use Rattle.as2_store.proofs.ReadsBy.{write_of, write_told}
 use Rattle.as2_store.proofs.store.Store.requeue_receipt.Goals as goal
 
 pub returns-clause-requeued : goal.returns-clause-requeued

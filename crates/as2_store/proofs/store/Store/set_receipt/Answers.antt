@@ -1,6 +1,6 @@
 use Rattle.std.proofs.Common.{ap}
 use Rattle.sqlite.specs.Held.{state}
-use Rattle.as2_store.proofs.Committing.{write_of, write_told}
+use Rattle.as2_store.proofs.ReadsBy.{write_of, write_told}
 use Rattle.as2_store.proofs.store.Store.set_receipt.Goals as goal
 
 pub returns-clause-set : goal.returns-clause-set

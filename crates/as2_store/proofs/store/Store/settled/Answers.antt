@@ -1,7 +1,7 @@
 use Rattle.std.proofs.Common.{◌∙◌, ap}
 use Rattle.sqlite.specs.Held.{state}
 use Rattle.as2_records.specs.Listing.{settled_numbers}
-use Rattle.as2_store.proofs.Querying.{mapped, read_of, read_told}
+use Rattle.as2_store.proofs.ReadsBy.{mapped, read_of, read_told}
 use Rattle.as2_store.proofs.store.Store.settled.Goals as goal
 
 pub returns-clause-numbers : goal.returns-clause-numbers

@@ -1,0 +1,7 @@
+use Rattle.as2_kept.proofs.Writing.{write_held}
+use Rattle.as2_kept.proofs.round.HeldRoundRecords.set_receipt.Goals as goal
+
+pub returns-clause-set : goal.returns-clause-set
+returns-clause-set g c =
+    let held = c.is_held.ensures c.if-not-is_held.false in
+    write_held _ held.0 _ _ _ _ held.1 c.set_receipt.ensures.set

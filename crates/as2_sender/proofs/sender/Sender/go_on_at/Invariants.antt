@@ -1,5 +1,0 @@
-use Rattle.as2_live.specs.Living.{LivesOn}
-use Rattle.as2_sender.proofs.sender.Sender.go_on_at.Given as goal
-
-abbrev pub invariant-loop : goal.invariant-loop
-invariant-loop g l = LivesOn g.K.Records.shows l.fn.live l.live
