@@ -1,5 +1,5 @@
 -- What a connection that has opened on the files of a store of an earlier version stands for, and the state that it has once it is migrated.
-use Rattle.std.proofs.Common.{◌≡◌, ◌∙◌, true, false, Some, Result, Ok, Err, IfOk, refl, sym, ap, subst, arith}
+use Rattle.std.proofs.Common.{◌≡◌, ◌∙◌, ℕ, true, false, Some, Result, Ok, Err, IfOk, refl, sym, ap, subst, arith}
 use Rattle.sqlite_wal.specs.Recovery.{Image}
 use Rattle.sqlite.specs.Effect.{Database}
 use Rattle.sqlite.specs.Held.{Held, state}
@@ -32,7 +32,8 @@ each_opens shown image (Err e) opened finds = tt
 -- ---- what is counted, and given back
 
 -- a transaction that is given up leaves the tables as they were
-pub given_up : {S : Type 0} (g : Ghosts S) (old : Held S) (last : Connected) (end : Held S) → IsInside (state g (record old { in_transaction = true })) last
+pub given_up : {S : Type 0} {held : ℕ} (g : Ghosts S) (old : Held S) (last : Connected) (end : Held S)
+    → IsInside held (state g (record old { in_transaction = true })) last
     → Survives last (state g end) (λ _. ⊥)
     → (state g end).in_transaction ≡ false → (HasCleanDisk (state g end) → IsRolledBack last (state g end)) → IsGivenBack (λ _. ⊥) (state g old) (state g end)
 given_up g old last end inside survives autocommit back =
@@ -70,7 +71,7 @@ back_same c autocommit = record {
   autocommit = autocommit;
   was_open = λ clean opened. opened;
   tables = λ clean opened committed. (refl, committed);
-  crash = (nothing_inside c).survives;
+  crash = (nothing_inside {held = 0} c).survives;
 }
 
 -- tables that are given back stand for what they stood for

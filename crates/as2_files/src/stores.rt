@@ -144,9 +144,13 @@ impl<R: Rounds + Drop, K: KeepFiles<R> + Drop> OpenStores for StoreFiles<'_, R, 
 }
 
 impl<R: Rounds + Drop, K: KeepFiles<R> + Drop> OpenRounds for StoreFiles<'_, R, K> {
+    ghost use Rattle.as2_records.specs.Rounds.{PassesOn};
+
     type Holding = R;
 
-    fn holding(records: R) -> R {
+    fn holding(records: R) -> R
+        ensures { PassesOn (R.shows records) (R.shows result) }
+    {
         records
     }
 

@@ -126,7 +126,9 @@ fn behind_a_round<'a, K: Rounds + Drop>(
     moment: Moment,
     ready: &[usize],
 ) -> Option<Live<'a, K>> {
-    let mut round = live.hold().ok()?;
+    let Ok(mut round) = live.hold() else {
+        return None;
+    };
     round.answer(moment, ready);
     Live::<K>::commit(round).ok()
 }

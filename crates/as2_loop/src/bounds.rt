@@ -43,3 +43,6 @@ pub(crate) const CROWDED_IDLE: u64 = 2_000;
 
 /// How long what is under way may take once the station is to stop, in milliseconds.
 pub(crate) const STOP: u64 = 10_000;
+
+/// For how long each thing is committed alone behind a round that was lost, so that each has its own answer: milliseconds.
+pub(crate) const ALONE: u64 = 10_000;

@@ -4,7 +4,7 @@ ghost use Rattle.as2_live.specs.Living.{LivesOn};
 ghost use Rattle.as2_loop.specs.Running.{CommitsTo, RunsOn, RunsTo, SettlesTo};
 
 use crate::bounds::{
-    ACCEPTS, BYTES_OF_ALL, BYTES_OF_ONE, CONNECTIONS, CROWDED_IDLE, LOOK, PIECE, READS, REQUESTS,
+    ACCEPTS, ALONE, BYTES_OF_ALL, BYTES_OF_ONE, CONNECTIONS, CROWDED_IDLE, LOOK, PIECE, READS, REQUESTS,
     STOP, Waits,
 };
 use crate::clock::{Moments, Watch};
@@ -63,6 +63,8 @@ pub(crate) struct Shell {
     is_shut: bool,
     /// .. and that was noted.
     is_noted: bool,
+    /// Up to when nothing is held back, in milliseconds, since a round was lost.
+    alone: u64,
     buffer: Vec<u8>,
 }
 
@@ -167,6 +169,7 @@ impl Shell {
             is_crowded: false,
             is_shut: false,
             is_noted: false,
+            alone: 0,
             buffer: Vec::from_elem(alloc, 0, PIECE)?,
         })
     }
@@ -289,7 +292,7 @@ impl Shell {
     }
 
     /// Answers these places, and sees to the tries. Where that may be more than one thing to be committed, it is held back and committed
-    /// at once; where it can't be held back, each is committed alone.
+    /// at once. Where it can't be held back, or a round was lost a moment ago, each is committed alone.
     fn settle<'b, K: Rounds + Drop>(
         &mut self,
         basis: &'b Basis,
@@ -298,7 +301,8 @@ impl Shell {
     ) -> Result<Live<'b, K>, Live<'b, K::Round>>
         ensures { SettlesTo K.shows K.Round.shows live.entry result }
     {
-        if ready.len() < 2 && !self.sender.has_due() {
+        let is_single = ready.len() < 2 && !self.sender.has_due();
+        if is_single || self.watch.now < self.alone {
             return Ok(self.work(basis, live, ready));
         }
         match live.hold() {
@@ -351,6 +355,7 @@ impl Shell {
     {
         let _ = basis.log.take(basis.alloc);
         note_lost(basis, count);
+        self.alone = self.watch.now.saturating_add(ALONE);
         let mut round = round;
         for at in 0..CONNECTIONS {
             self.close(&mut round, at);

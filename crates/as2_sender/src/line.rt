@@ -191,6 +191,11 @@ impl Line {
         }
     }
 
+    /// It is over.
+    pub(crate) fn is_over(&self) -> bool {
+        self.over.is_some()
+    }
+
     /// How long it has stood by that time, in milliseconds.
     pub(crate) fn stood(&self, now: u64) -> u64 {
         now.saturating_sub(self.began)

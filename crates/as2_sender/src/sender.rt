@@ -129,7 +129,7 @@ impl Sender {
     /// A turn may have something recorded: a link is over, or a try may begin.
     pub fn has_due(&self) -> bool {
         let is_over = self.lines.iter().any(|line| match line {
-            Some(line) => line.over.is_some(),
+            Some(line) => line.is_over(),
             None => false,
         });
         is_over || self.may_begin()
@@ -176,7 +176,7 @@ impl Sender {
             line.is_marked = false;
             return Did::Nothing;
         };
-        if !line.is_marked || line.over.is_some() {
+        if !line.is_marked || line.is_over() {
             line.is_marked = false;
             return Did::Nothing;
         }

@@ -120,6 +120,7 @@ impl<S: Alter> Store<S> {
     pub fn migrate(mut conn: Connection<S>) -> Result<Store<S>, (Connection<S>, StoreFault)>
         requires autocommit { conn.in_transaction ≡ false }
         ensures migrated { IfOk result (λ store. Migrates (state S.Store conn) (state S.Store store)) }
+        ensures alone { IfOk result (λ store. store.in_transaction ≡ false) }
         ensures given_back { IfErr result
             (λ e. IsGivenBack (CommitsMigrated (state S.Store conn)) (state S.Store conn) (state S.Store e.0)) }
         ensures reason { IfErr result (λ e. HasCleanDisk (state S.Store e.0)

@@ -1,4 +1,6 @@
-use Rattle.std.proofs.Common.{sym, subst}
+use Rattle.std.proofs.Common.{◌∙◌, Bool, ap, sym, subst}
+use Rattle.sqlite.specs.Held.{Held}
+use Rattle.sqlite_store.specs.declared.store.FileStore.{FileStore}
 use Rattle.sqlite.specs.Files.{file_state}
 use Rattle.as2_store.specs.Migrating.{Migrates}
 use Rattle.as2_files.proofs.Earlier.{back_as, back_to, reaches_moved}
@@ -22,3 +24,9 @@ returns-clause-moved g c = λ honest s held.
     let again = back_as layout opened asked s c.counted-before.ensures.given_back clean_asked rests in
     let next = reaches_moved layout (g.F.OpenFiles.image c.args.name.now) made s held.1 held.2 (migrates.done clean_made layout s again) in
     c.closed.ensures.kept honest (migrated_if_first s) (back_to made last (migrated_if_first s) c.counted-after.ensures.given_back clean_last next)
+
+-- a store that was migrated has no transaction open
+pub counted-after-requires : goal.counted-after-requires
+counted-after-requires g c = record {
+  autocommit = ap (λ (h : Held (FileStore g.row.F-Disk.Denot g.F.Disk.Disk)). h.in_transaction) c.into_connection-conn.ensures ∙ c.in-Ok-migrate.ensures.alone;
+}

@@ -11,7 +11,7 @@ returns-clause-given_back g c =
     let old = c.args.conn.now in
     let begun = state g.S.Store (record old { in_transaction = true }) in
     let mid = state g.S.Store c.query_all.new.self.conn.now in
-    let inside = queried_inside (λ rows. rows.items) c.args.query.now [] begun mid c.query_all.result (λ clean. refl)
+    let inside = queried_inside {held = 0} (λ rows. rows.items) c.args.query.now [] begun mid c.query_all.result (λ clean. refl)
     (rw c.transaction-tx.ensures.begun at c.query_all.ensures.ok) (rw c.transaction-tx.ensures.begun at c.query_all.ensures.err)
     (rw c.transaction-tx.ensures.begun at c.query_all.ensures.survives) in
     let end = c.drop-tx.new.self.0 in
