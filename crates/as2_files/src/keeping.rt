@@ -138,6 +138,7 @@ impl<F: OpenFiles + Drop> KeepFiles<Kept<FileStore<F::Disk>>> for InFiles<F> {
     fn close_records(records: Kept<FileStore<F::Disk>>) -> End<F::Disk> {
         close_into_files(records)
     }
+
     fn let_go(round: HeldRound<FileStore<F::Disk>>) -> End<F::Disk> {
         End::Lost(let_go(round.into_store().into_connection()))
     }

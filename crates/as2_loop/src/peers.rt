@@ -109,12 +109,7 @@ fn write_once<K: Rounds>(
 }
 
 /// Writes what is to be written, as far as the system takes it.
-pub(crate) fn write<K: Rounds>(
-    live: &mut Live<'_, K>,
-    at: usize,
-    peer: &mut Peer,
-    now: u64,
-) -> Went
+pub(crate) fn write<K: Rounds>(live: &mut Live<'_, K>, at: usize, peer: &mut Peer, now: u64) -> Went
     ensures lives { LivesOn K.shows live.old live.new }
 {
     for _ in 0..READS {

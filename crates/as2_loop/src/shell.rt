@@ -4,8 +4,8 @@ ghost use Rattle.as2_live.specs.Living.{LivesOn};
 ghost use Rattle.as2_loop.specs.Running.{CommitsTo, RunsOn, RunsTo, SettlesTo};
 
 use crate::bounds::{
-    ACCEPTS, ALONE, BYTES_OF_ALL, BYTES_OF_ONE, CONNECTIONS, CROWDED_IDLE, LOOK, PIECE, READS, REQUESTS,
-    STOP, Waits,
+    ACCEPTS, ALONE, BYTES_OF_ALL, BYTES_OF_ONE, CONNECTIONS, CROWDED_IDLE, LOOK, PIECE, READS,
+    REQUESTS, STOP, Waits,
 };
 use crate::clock::{Moments, Watch};
 use crate::commands::{Attended, Basis, attend};
@@ -100,9 +100,9 @@ fn note_tick(basis: &Basis, said: Result<u64, StoreFault>) {
 
 /// Notes that a round was lost in which so many requests were answered.
 fn note_lost(basis: &Basis, count: usize) {
-    if let Ok(line) =
-        format!(in basis.alloc; "store lost - a round of {count} answers wasn't committed")
-    {
+    if let Ok(line) = format!(in basis.alloc;
+        "store lost - a round of {count} answers wasn't committed"
+    ) {
         basis.log.add(line.as_str().as_bytes());
     }
 }
