@@ -13,7 +13,7 @@ use as2_http::{Counted, Journal, Sink, Source};
 use as2_kept::Kept;
 use as2_loop::{Held, Spanned, run_station};
 use as2_records::Rounds;
-use sqlite::FileStore;
+use sqlite::{Alter, FileStore};
 use sqlite_disk::Disk;
 use sqlite_std_file::Unknown;
 use std::io::{LineWriter, Stderr, Stdin, Stdout, Write};
@@ -147,6 +147,18 @@ fn run_over_stores<R: Rounds + Drop, K: KeepFiles<R> + Drop>(
     came
 }
 
+/// Runs a command line over stores in SQLite's tables, whatever these lie in, which `keeper` opens. What they lie in is any, since the records
+/// and their rounds over one kind of files cost the prover too much at once.
+fn run_over_tables<S: Alter + Drop, K: KeepFiles<Kept<S>> + Drop>(
+    rt: &HostRuntime,
+    words: &[&str],
+    held: Option<Held>,
+    keeper: K,
+    hints: Lines<LineWriter<Stderr>, ProgressLine<'_>>,
+) -> Came {
+    run_over_stores::<Kept<S>, K>(rt, words, held, keeper, hints)
+}
+
 /// Runs a command line over stores in SQLite's files, on any disk, which `keeper` opens.
 fn run_over_kept<D: Disk + Drop, K: KeepFiles<Kept<FileStore<D>>> + Drop>(
     rt: &HostRuntime,
@@ -155,7 +167,7 @@ fn run_over_kept<D: Disk + Drop, K: KeepFiles<Kept<FileStore<D>>> + Drop>(
     keeper: K,
     hints: Lines<LineWriter<Stderr>, ProgressLine<'_>>,
 ) -> Came {
-    run_over_stores::<Kept<FileStore<D>>, K>(rt, words, held, keeper, hints)
+    run_over_tables::<FileStore<D>, K>(rt, words, held, keeper, hints)
 }
 
 /// Runs a command line over stores in the files that `opener` opens. What they hold then is any: so is it each time that a station opens
