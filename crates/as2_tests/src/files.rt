@@ -82,6 +82,9 @@ fn refusal<S: Alter + Drop>(conn: Connection<S>) -> Option<StoreFault>
     requires { conn.in_transaction ≡ false }
 {
     let store = Store::adopt(conn).ok()?;
+    if !store.is_alone() {
+        return None;
+    }
     match Store::create(store.into_connection(), 5) {
         Ok(_) => None,
         Err((_, fault)) => Some(fault),
