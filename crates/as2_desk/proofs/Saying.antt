@@ -11,7 +11,7 @@ use Rattle.as2_http.specs.Sending.{AppendsPart}
 use Rattle.as2_http.specs.declared.device.Sink.{Ghosts}
 use Rattle.as2_desk.specs.Endings.{Ends}
 use Rattle.as2_desk.specs.Refusals.{error_line, refusal_status}
-use Rattle.as2_desk.specs.Written.{WritesBy, WritesIf, written_of}
+use Rattle.as2_desk.specs.Written.{WritesIf, WritesOrBreaks, written_of}
 use Rattle.as2_desk.specs.declared.refusal.CommandFault.{CommandFault}
 use Rattle.as2_desk.specs.declared.status.Ran.{Ran}
 use Rattle.std.specs.Prelude.{length}
@@ -61,7 +61,7 @@ ends_behind g old first mid end xs refusal told ran said counted same status mor
 -- what a writer was given is written, or broken off where a write failed
 pub pushed : {W V F : Type 0} (g : Ghosts W) (a b : W) (xs ys : List ℕ) (r : Result V F) → xs ≡ ys → OnOk r (Appends (g.written a) (g.written b) xs)
     → OnOk r (g.failed b ≡ g.failed a) → OnErr r (AppendsPart (g.written a) (g.written b) xs)
-    → OnErr r (g.failed a < g.failed b) → WritesBy r (written_of g a b) ys
+    → OnErr r (g.failed a < g.failed b) → WritesOrBreaks r (written_of g a b) ys
 pushed g a b xs ys (Ok v) is whole sound part failed = (subst (Appends (g.written a) (g.written b)) is whole, sound)
 pushed g a b xs ys (Err f) is whole sound part failed = (failed, subst (AppendsPart (g.written a) (g.written b)) is part)
 

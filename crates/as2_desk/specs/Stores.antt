@@ -22,8 +22,8 @@ abbrev pub StoreBegins : List ℕ → ℕ → Type 0 → (ℕ → State → Type
 StoreBegins path first Clean Keeps s = ByPlace (is_in_memory path) (s ≡ empty (LaterVersion 0) first) (Keeps first s × Clean)
 
 -- that state is kept once the store is closed, whatever number is given from then on (Keeps); one in memory is kept nowhere
-abbrev pub Leaves : List ℕ → (ℕ → State → Type 0) → State → Type 0
-Leaves path Keeps s = ByPlace (is_in_memory path) ⊤ ((first : ℕ) → Keeps first s)
+abbrev pub IsKeptAt : List ℕ → (ℕ → State → Type 0) → State → Type 0
+IsKeptAt path Keeps s = ByPlace (is_in_memory path) ⊤ ((first : ℕ) → Keeps first s)
 
 -- how many stores are opened for that path, beside one in memory
 abbrev pub opens_at : Bool → ℕ

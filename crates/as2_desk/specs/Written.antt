@@ -33,9 +33,9 @@ abbrev pub WritesIf : Bool → WriterSeen → List ℕ → Type 0
 WritesIf true w text = WritesWhole w text
 WritesIf false w text = Breaks w text
 
-abbrev pub WritesBy : {V F : Type 0} → Result V F → WriterSeen → List ℕ → Type 0
-WritesBy (Ok v) w text = WritesWhole w text
-WritesBy (Err f) w text = Breaks w text
+abbrev pub WritesOrBreaks : {V F : Type 0} → Result V F → WriterSeen → List ℕ → Type 0
+WritesOrBreaks (Ok v) w text = WritesWhole w text
+WritesOrBreaks (Err f) w text = Breaks w text
 
 -- some text was written, and of one behind it a part, since a write failed
 pub record BreaksBehind (w : WriterSeen) (whole text : List ℕ) : Type 0 where

@@ -10,7 +10,7 @@ ghost use Rattle.as2_desk.specs.Observed.{errors_of, console_outcome};
 ghost use Rattle.as2_commands.specs.declared.tasks.Question.TheVariants.{Resend};
 ghost use Rattle.as2_desk.specs.Questions.{QuestionInHand, AnswersQuestion, EndsByEvent, FaultMayCome, IsToldOf, Prints, Tells, looked_up, number_line, printed_text, read_told, refusal_to, told_as};
 ghost use Rattle.as2_desk.specs.Statuses.{status_done, status_failed, status_refused};
-ghost use Rattle.as2_desk.specs.Written.{WritesBy, written_of};
+ghost use Rattle.as2_desk.specs.Written.{WritesOrBreaks, written_of};
 ghost use Rattle.as2_desk.specs.declared.refusal.CommandFault.TheVariants.{Station as Refusing, Store as Failing};
 ghost use Rattle.as2_host.specs.declared.stores.OpenFault.{OpenFault as TheFault};
 
@@ -168,7 +168,7 @@ pub(crate) fn ask<K: Records, R, W: Sink, H, E: Sink>(
 
 /// Writes what is to be printed.
 fn write_printed<W: Sink>(printed: Printed, output: &mut W) -> Result<(), DeviceFault>
-    ensures { WritesBy result (written_of W.Sink output.old output.new) (printed_text printed) }
+    ensures { WritesOrBreaks result (written_of W.Sink output.old output.new) (printed_text printed) }
 {
     match printed {
         Printed::Number(number) => {

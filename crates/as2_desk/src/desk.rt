@@ -12,7 +12,7 @@ ghost use Rattle.as2_desk.specs.Observed.{errors_of, filing_of, input_of, consol
 ghost use Rattle.as2_desk.specs.Runs.{WordsAskFor, DoesTask, IsSending, IsServing, Runs};
 ghost use Rattle.as2_desk.specs.Stops.{StopsAtFault};
 ghost use Rattle.as2_desk.specs.Statuses.{IsExitStatus, status_done, status_failed, status_faulty, status_refused};
-ghost use Rattle.as2_desk.specs.Stores.{Leaves};
+ghost use Rattle.as2_desk.specs.Stores.{IsKeptAt};
 ghost use Rattle.as2_desk.specs.Written.{written_of};
 ghost use Rattle.as2_commands.specs.declared.tasks.Task.{Task as TheTask};
 ghost use Rattle.as2_desk.specs.declared.refusal.CommandFault.TheVariants.{Memory};
@@ -69,7 +69,7 @@ pub fn run<
         (record {
           input = input_of R.Source console.old console.new;
           outcome = console_outcome W.Sink E.Sink console.old console.new
-              (Leaves store (O.keeps host.new.stores store));
+              (IsKeptAt store (O.keeps host.new.stores store));
           filing = filing_of F.MakeFiles host.old.outside.files host.new.outside.files;
           Unasked = host.new.outside.network ≡ host.old.outside.network;
           Exchanged = ExchangedOver N.Network N.Links.Links host.old.outside.network host.new.outside.network;
@@ -144,7 +144,7 @@ fn carry_out<
         (record {
           input = input_of R.Source console.old console.new;
           outcome = console_outcome W.Sink E.Sink console.old console.new
-              (Leaves options.entry.store.now (O.keeps host.new.stores options.entry.store.now));
+              (IsKeptAt options.entry.store.now (O.keeps host.new.stores options.entry.store.now));
           filing = filing_of F.MakeFiles host.old.outside.files host.new.outside.files;
           Unasked = host.new.outside.network ≡ host.old.outside.network;
           Exchanged = ExchangedOver N.Network N.Links.Links host.old.outside.network host.new.outside.network;

@@ -7,7 +7,7 @@ ghost use Rattle.as2_host.specs.Serving.{ServesOne};
 ghost use Rattle.as2_desk.specs.Observed.{errors_of, console_outcome, output_of};
 ghost use Rattle.as2_desk.specs.Connections.{ServesConnections, ServesCount, ServesNext, TellsNext, WritesLines, connection_line, listening_line, stop_fault};
 ghost use Rattle.as2_desk.specs.Stops.{FailsBehind};
-ghost use Rattle.as2_desk.specs.Written.{WritesBy};
+ghost use Rattle.as2_desk.specs.Written.{WritesOrBreaks};
 ghost use Rattle.as2_desk.specs.Statuses.{status_done, status_failed, status_refused};
 
 use crate::console::Console;
@@ -64,7 +64,7 @@ fn serve_one<K: Records, L: Listens, R, W: Sink, H: Write + Journal + CountsBusy
         (λ end. (trace : Trace) × L.ended listener.old moment.now trace end listener.new)
         (λ end s t. ServesOne terms.now.agreements.now moment.now
         (λ trace. L.ended listener.old moment.now trace end listener.new) s t)
-        (λ end. WritesBy result (output_of W.Sink console.old console.new) (connection_line end)) }
+        (λ end. WritesOrBreaks result (output_of W.Sink console.old console.new) (connection_line end)) }
 {
     let before = console.hints.busy();
     let end = listener.serve(

@@ -9,7 +9,7 @@ ghost use Rattle.as2_desk.specs.Observed.{errors_of, filing_of, input_of, consol
 ghost use Rattle.as2_desk.specs.Runs.{Goes};
 ghost use Rattle.as2_desk.specs.Statuses.{status_done, status_failed, status_refused};
 ghost use Rattle.as2_desk.specs.Stops.{StopsAtFault};
-ghost use Rattle.as2_desk.specs.Stores.{Leaves};
+ghost use Rattle.as2_desk.specs.Stores.{IsKeptAt};
 ghost use Rattle.as2_host.specs.FileContents.{front};
 ghost use Rattle.as2_desk.specs.FileDocuments.{DocumentResult, HasDocument};
 ghost use Rattle.as2_desk.specs.Works.{CarriesOut, DoesWork, IsAsked, IsWork, IsSendCommand, SendsWork, ServesIt, ServesWork, asked_of, hand_in};
@@ -283,7 +283,7 @@ pub(crate) fn work_over<
     }) (Ok work.entry) (record {
       input = input_of R.Source console.old console.new;
       outcome = console_outcome W.Sink E.Sink console.old console.new
-          (Leaves store.entry.path.now (O.keeps host.new.stores store.entry.path.now));
+          (IsKeptAt store.entry.path.now (O.keeps host.new.stores store.entry.path.now));
       filing = filing_of F.MakeFiles host.old.outside.files host.new.outside.files;
       Unasked = host.new.outside.network ≡ host.old.outside.network;
       Exchanged = ExchangedOver N.Network N.Links.Links host.old.outside.network host.new.outside.network;

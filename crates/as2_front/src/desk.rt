@@ -1,5 +1,5 @@
 //! The station as a desk: it answers the requests of many connections, one after the other.
-ghost use Rattle.std.specs.Prelude.{◌≡◌, true, IfErr, IfOk};
+ghost use Rattle.std.specs.Prelude.{◌≡◌, true, IfErr, IfOk, None, Some};
 ghost use Rattle.as2_exchange.specs.declared.answer.Answer.TheVariants.{Ticked};
 ghost use Rattle.as2_exchange.specs.declared.event.Event.TheVariants.{Tick};
 ghost use Rattle.as2_records.specs.Calls.{Reads};
@@ -45,6 +45,7 @@ impl<'a, K: Records> StationDesk<'a, K> {
         ensures agreements { result.agreements.now ≡ agreements.now }
         ensures moment { result.moment ≡ moment }
         ensures station { result.station ≡ station }
+        ensures log { result.log ≡ None }
     {
         StationDesk {
             alloc,
@@ -61,6 +62,7 @@ impl<'a, K: Records> StationDesk<'a, K> {
         ensures agreements { result.agreements ≡ self.entry.agreements }
         ensures moment { result.moment ≡ self.entry.moment }
         ensures station { result.station ≡ self.entry.station }
+        ensures log { result.log ≡ Some log.entry }
     {
         let mut desk = self;
         desk.log = Some(log);
@@ -111,6 +113,7 @@ impl<'a, K: Records> StationDesk<'a, K> {
         ensures same { self.new ≡ record self.old { station = self.new.station } }
         ensures next { Reads (λ s found. found ≡ next_behind s moment last) (K.shows self.old.station)
             (K.shows self.new.station) result }
+        ensures fault { IfErr result (λ f. may_come f ≡ true) }
     {
         self.station.next_behind(moment, last)
     }
@@ -120,6 +123,7 @@ impl<'a, K: Records> StationDesk<'a, K> {
         ensures same { self.new ≡ record self.old { station = self.new.station } }
         ensures destination { Reads (λ s found. found ≡ destination self.old.agreements.now s what)
             (K.shows self.old.station) (K.shows self.new.station) result }
+        ensures fault { IfErr result (λ f. may_come f ≡ true) }
     {
         self.station.destination(self.alloc, self.agreements, what)
     }

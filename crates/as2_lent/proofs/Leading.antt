@@ -29,7 +29,7 @@ use Rattle.as2_desk.specs.declared.status.Ran.{Ran}
 use Rattle.as2_commands.specs.declared.tasks.RunOptions.{RunOptions}
 use Rattle.as2_live.specs.Living.{LeadsByOne}
 use Rattle.as2_records.specs.Standing.{Medium, Standing}
-use Rattle.as2_desk.specs.Stores.{ByPlace, Leaves, StoreBegins, is_in_memory}
+use Rattle.as2_desk.specs.Stores.{ByPlace, IsKeptAt, StoreBegins, is_in_memory}
 use Rattle.as2_lent.specs.Lending.{IsLendable}
 use Rattle.as2_lent.specs.Lent.{IsCleanLent, LentKeeps}
 
@@ -161,14 +161,14 @@ module _ {M : Medium} {K : Type 0} (shows : K → Standing M) (old new : Option 
   begins_lent is first =
       subst (λ (b : Bool). ByPlace b (s ≡ empty (LaterVersion 0) first) (LentKeeps shows old s × IsCleanLent shows new)) (sym is) (keeps, clean)
 
-  left_lent : is_in_memory store ≡ false → (t : State) → Leaves store (λ number. LentKeeps shows new) t → LentKeeps shows new t
+  left_lent : is_in_memory store ≡ false → (t : State) → IsKeptAt store (λ number. LentKeeps shows new) t → LentKeeps shows new t
   left_lent is t it = subst (λ (b : Bool). ByPlace b ⊤ ((first : ℕ) → LentKeeps shows new t)) is it 0
 
   pub lends : (A : AgreedValues) (o : Observation) (stored : StoresSeen) (ran : Ran) (contents : List ℕ → Content) (opened : AgreementsResult) (task : Task)
       → DoesTask contents opened task o stored ran → (b : Bool) → is_in_memory store ≡ b → (b ≡ true → new ≡ old)
       → ((first : ℕ) → StoreBegins store first (IsCleanLent shows new) (λ number. LentKeeps shows old) s → stored.Begins first s)
       → (stored.Untouched → new ≡ old) → (stored.Kept → LentKeeps shows old s → LentKeeps shows new s)
-      → ((t : State) → o.outcome.Left t → Leaves store (λ number. LentKeeps shows new) t)
+      → ((t : State) → o.outcome.Left t → IsKeptAt store (λ number. LentKeeps shows new) t)
       → (opened ≡ Ok A) ⊎ ((e : CommandFault) × (opened ≡ Err e)) → IsLendable task → LeadsByOne A s (LentKeeps shows new)
   lends A o stored ran contents opened task it true is memory begins untouched kept left reading may =
       stays A s (LentKeeps shows new) (subst (λ (k : Option K). LentKeeps shows k s) (sym (memory refl)) keeps)

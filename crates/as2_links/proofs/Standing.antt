@@ -1,5 +1,5 @@
 -- What a change at one place leaves at all of them.
-use Rattle.std.proofs.Common.{◌≡◌, ◌≢◌, ◌∙◌, ℕ, zero, suc, ◌<◌, ◌==◌, ◌||◌, Bool, true, false, get_or, List, [], ◌∷◌, ◌++◌, length, take, drop, if◌then◌else◌, Option, Some, None, IsTrue, true≢false, refl, sym, ap, subst, arith, append_assoc, append-nil, replicate}
+use Rattle.std.proofs.Common.{◌≡◌, ◌≢◌, ◌∙◌, ℕ, zero, suc, ◌<◌, ◌≤◌, ◌==◌, ◌||◌, Bool, true, false, get_or, List, [], ◌∷◌, ◌++◌, length, take, drop, if◌then◌else◌, Option, Some, None, IsTrue, true≢false, refl, sym, ap, subst, arith, append_assoc, append-nil, replicate}
 use Rattle.std.specs.Prelude.{slice_get, slice_set}
 use Rattle.std.specs.List.{list_any}
 use Rattle.std.proofs.lemmas.Option.{slice_get_read}
@@ -9,7 +9,7 @@ use Rattle.as2_exchange.specs.declared.event.TryAnswer.{TryAnswer}
 use Rattle.as2_exchange.specs.declared.next.Next.{Next}
 use Rattle.as2_exchange.specs.declared.next.Next.TheVariants.{Document, Receipt}
 use Rattle.as2_links.specs.Happenings.{Begins, Cuts, Ends, GetsBy, Hears, IsBegun, IsLinkFor, IsOpenWith, IsRight, LinkHappening, LinkHappenings, LinkState, Sends, fresh, if_so, link_at, link_with, link_place}
-use Rattle.as2_links.specs.Links.{HoldsLink, LinksStand, MayOpen, PlaceHolds, is_for, is_same, links_of, unsent_of}
+use Rattle.as2_links.specs.Links.{ChangesOnly, HoldsLink, LinksStand, MayOpen, PlaceHolds, is_for, is_same, links_of, unsent_of}
 use Rattle.as2_links.specs.declared.link.Link.{Link}
 use Rattle.as2_links.specs.declared.table.LinkTable.{LinkTable}
 
@@ -33,10 +33,33 @@ placed (x ∷ xs) (suc at) v P within here other (suc c) =
 pub there : {X : Type 0} (xs : List X) (at : ℕ) (o : X) → at < length xs → o ≡ get_or xs at o → slice_get xs at ≡ Some o
 there xs at o within found = slice_get_read xs (length xs) at o refl within found
 
-set_same : {X : Type 0} (xs : List X) (at : ℕ) (v : X) → slice_get xs at ≡ Some v → slice_set xs at v ≡ xs
+pub set_same : {X : Type 0} (xs : List X) (at : ℕ) (v : X) → slice_get xs at ≡ Some v → slice_set xs at v ≡ xs
 set_same [] at v is = refl
 set_same (x ∷ xs) zero v is = let e : v ≡ x = cc in ap (λ y. y ∷ xs) e
 set_same (x ∷ xs) (suc at) v is = ap (λ l. x ∷ l) (set_same xs at v is)
+
+pub got : {X : Type 0} (xs : List X) (at : ℕ) (v : X) → at < length xs → slice_get (slice_set xs at v) at ≡ Some v
+got [] at v within = absurd (omega (arith, within))
+got (x ∷ xs) zero v within = refl
+got (x ∷ xs) (suc at) v within = got xs at v (omega (arith, within))
+
+-- .. and one that isn't there gets nothing
+pub beyond : {X : Type 0} (xs : List X) (at : ℕ) (v : X) → length xs ≤ at → slice_set xs at v ≡ xs
+beyond [] at v past = refl
+beyond (x ∷ xs) zero v past = absurd (omega (arith, past))
+beyond (x ∷ xs) (suc at) v past = ap (λ l. x ∷ l) (beyond xs at v (omega (arith, past)))
+
+length_set : {X : Type 0} (xs : List X) (at : ℕ) (v : X) → length (slice_set xs at v) ≡ length xs
+length_set [] at v = refl
+length_set (x ∷ xs) zero v = refl
+length_set (x ∷ xs) (suc at) v = ap suc (length_set xs at v)
+
+pub as_many_set : (old new : LinkTable) (at : ℕ) (v : Option Link) → links_of new ≡ slice_set (links_of old) at v
+    → length (links_of new) ≡ length (links_of old)
+as_many_set old new at v set = ap length set ∙ length_set (links_of old) at v
+
+pub as_many : (old new : LinkTable) (at : ℕ) → ChangesOnly at old new → length (links_of new) ≡ length (links_of old)
+as_many old new at (v, set) = as_many_set old new at v set
 
 -- a place that gets what it had
 pub unchanged : (old new : LinkTable) (at : ℕ) (v : Option Link) → slice_get (links_of old) at ≡ Some v → links_of new ≡ slice_set (links_of old) at v

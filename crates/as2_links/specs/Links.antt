@@ -1,5 +1,5 @@
 -- What is kept of links, after what happened at them.
-use Rattle.std.specs.Prelude.{◌≡◌, ℕ, ◌==◌, ◌&&◌, Bool, not, true, false, drop, length, List, [], ◌∷◌, ◌++◌, Option, Some, None, slice_get}
+use Rattle.std.specs.Prelude.{◌≡◌, ℕ, ◌==◌, ◌&&◌, Bool, not, true, false, drop, length, List, [], ◌∷◌, ◌++◌, Option, Some, None, slice_get, slice_set}
 use Rattle.std.specs.List.{list_any}
 use Rattle.as2_exchange.specs.declared.next.Next.{Next}
 use Rattle.as2_exchange.specs.declared.next.Next.TheVariants.{Document, Receipt}
@@ -31,6 +31,12 @@ awaits_answer None = false
 awaits_answer (Some None) = false
 awaits_answer (Some (Some link)) = length (unsent_of link) == 0 && not (is_answer_known link.answer)
 
+-- .. of the link there, if there is one
+abbrev pub is_answered_at : Option (Option Link) → Bool
+is_answered_at None = false
+is_answered_at (Some None) = false
+is_answered_at (Some (Some link)) = is_answer_known link.answer
+
 -- what is kept of a link is what went over it
 pub record HoldsLink (link : Link) (s : LinkState) : Type 0 where
   pub what : link.what ≡ s.what
@@ -41,6 +47,10 @@ pub record HoldsLink (link : Link) (s : LinkState) : Type 0 where
 -- the links, each at its place
 abbrev pub links_of : LinkTable → List (Option Link)
 links_of table = table.links.items
+
+-- no place but that one has changed, and there are as many as before
+abbrev pub ChangesOnly : ℕ → LinkTable → LinkTable → Type 0
+ChangesOnly at old new = (o : Option Link) × (links_of new ≡ slice_set (links_of old) at o)
 
 abbrev pub PlaceHolds : Option (Option Link) → Option LinkState → Type 0
 PlaceHolds None o = o ≡ None

@@ -74,7 +74,7 @@ impl Link {
     /// For a try of that, whose request is to be written. Nothing was written yet.
     pub(crate) fn new(alloc: Global, what: Next, job: Job) -> Link
         ensures holds { HoldsLink result (fresh what job) }
-        ensures what { result.what ≡ what }
+        ensures awaits { is_answer_known result.answer ≡ false }
     {
         Link {
             what,
@@ -119,7 +119,7 @@ impl Link {
         requires within { count ≤ length (unsent_of self.old) }
         ensures holds { (s : LinkState) → HoldsLink self.old s
             → HoldsLink self.new (record s { sent = s.sent ++ take count (unsent_of self.old) }) }
-        ensures what { self.new.what ≡ self.old.what }
+        ensures same { self.new ≡ record self.old { sent = self.new.sent } }
     {
         self.sent = self.sent.min(self.job.bytes.as_slice().len()) + count;
     }

@@ -1,8 +1,8 @@
 //! The links that are open, each at its place.
-ghost use Rattle.std.specs.Prelude.{◌≡◌, ◌∷◌, ◌++◌, [], false, take, option_map, position, is_none, is_some, IfOk, IsTrue, slice_get};
+ghost use Rattle.std.specs.Prelude.{◌≡◌, ◌∷◌, ◌++◌, [], None, false, take, option_map, position, is_none, is_some, replicate, IfOk, IsTrue, slice_get, slice_set};
 ghost use Rattle.as2_links.specs.Happenings.{LinkHappenings, Begins, Sends, Hears, Cuts, if_so};
 ghost use Rattle.std.specs.List.{list_any};
-ghost use Rattle.as2_links.specs.Links.{LinksStand, MayOpen, awaits_answer, ended_at, is_for, link_in, links_of, unsent_at};
+ghost use Rattle.as2_links.specs.Links.{ChangesOnly, LinksStand, MayOpen, awaits_answer, ended_at, is_answered_at, is_for, link_in, links_of, unsent_at};
 
 use crate::link::{EndedLink, Link};
 use as2_exchange::{Job, Next};
@@ -20,6 +20,7 @@ pub struct LinkTable {
 impl LinkTable {
     /// So many places, and no link.
     pub fn new(alloc: Global, count: usize) -> Result<LinkTable, Memory>
+        ensures vacant { IfOk result (λ table. links_of table ≡ replicate count None) }
         ensures stands { IfOk result (λ table. LinksStand table []) }
     {
         let mut links = Vec::new(alloc);
@@ -75,6 +76,8 @@ impl LinkTable {
     pub fn open(&mut self, at: usize, what: Next, job: Job)
         requires free { MayOpen self.old at what }
         ensures stands { (h : LinkHappenings) → LinksStand self.old h → LinksStand self.new (Begins at what job ∷ h) }
+        ensures only { ChangesOnly at self.old self.new }
+        ensures awaits { is_answered_at (slice_get (links_of self.new) at) ≡ false }
     {
         self.links[at] = Some(Link::new(self.alloc, what, job));
     }
@@ -84,6 +87,10 @@ impl LinkTable {
         ensures there { result ≡ is_some (link_in (slice_get (links_of self.old) at)) }
         ensures stands { (h : LinkHappenings) → LinksStand self.old h → LinksStand self.new
             (if_so result (Sends at (take most (unsent_at (slice_get (links_of self.old) at)))) ++ h) }
+        ensures only { ChangesOnly at self.old self.new }
+        ensures none { result ≡ false → links_of self.new ≡ links_of self.old }
+        ensures answer { is_answered_at (slice_get (links_of self.new) at)
+            ≡ is_answered_at (slice_get (links_of self.old) at) }
     {
         if at >= self.links.len() {
             return false;
@@ -101,6 +108,8 @@ impl LinkTable {
         ensures awaits { result ≡ awaits_answer (slice_get (links_of self.old) at) }
         ensures stands { (h : LinkHappenings) → LinksStand self.old h
             → LinksStand self.new (if_so result (Hears at piece.now) ++ h) }
+        ensures only { ChangesOnly at self.old self.new }
+        ensures none { result ≡ false → links_of self.new ≡ links_of self.old }
     {
         if at >= self.links.len() {
             return false;
@@ -119,6 +128,8 @@ impl LinkTable {
         ensures awaits { result ≡ awaits_answer (slice_get (links_of self.old) at) }
         ensures stands { (h : LinkHappenings) → LinksStand self.old h
             → LinksStand self.new (if_so result (Cuts at) ++ h) }
+        ensures only { ChangesOnly at self.old self.new }
+        ensures none { result ≡ false → links_of self.new ≡ links_of self.old }
     {
         if at >= self.links.len() {
             return false;
@@ -136,6 +147,7 @@ impl LinkTable {
     pub fn end(&mut self, at: usize) -> Option<EndedLink>
         ensures there { is_some result ≡ is_some (link_in (slice_get (links_of self.old) at)) }
         ensures stands { (h : LinkHappenings) → LinksStand self.old h → LinksStand self.new (ended_at at result ++ h) }
+        ensures empties { links_of self.new ≡ slice_set (links_of self.old) at None }
     {
         if at >= self.links.len() {
             return None;

@@ -1,5 +1,5 @@
 -- What happens to a live station, one behind the other: nothing is something, and what happens behind something is, with it, something.
-use Rattle.std.proofs.Common.{◌≡◌, ◌∙◌, ℕ, Bool, true, false, List, [], ◌∷◌, ◌++◌, Result, Ok, Err, refl, sym, ap, subst, append_assoc, append-nil}
+use Rattle.std.proofs.Common.{◌≡◌, ◌∙◌, ℕ, Bool, true, false, List, [], ◌∷◌, ◌++◌, length, Result, Ok, Err, refl, sym, ap, subst, append_assoc, append-nil}
 use Rattle.as2_agreement.specs.Agreements.{AgreedValues}
 use Rattle.as2_exchange.specs.Run.{AnEvent, EventResult, Run, Trace}
 use Rattle.as2_exchange.specs.State.{State}
@@ -16,7 +16,7 @@ use Rattle.as2_hub.specs.declared.hub.Hub.{Hub}
 use Rattle.as2_exchange.specs.declared.event.TryAnswer.{TryAnswer}
 use Rattle.as2_exchange.specs.declared.next.Next.{Next}
 use Rattle.as2_links.specs.Happenings.{Begins, Cuts, Ends, Hears, LinkHappenings, Sends, if_so}
-use Rattle.as2_links.specs.Links.{LinksStand}
+use Rattle.as2_links.specs.Links.{LinksStand, links_of}
 use Rattle.as2_links.specs.declared.table.LinkTable.{LinkTable}
 use Rattle.as2_records.specs.Standing.{Medium, Standing}
 use Rattle.as2_station.specs.Said.{begin_event, outcome_event}
@@ -110,6 +110,7 @@ module _ {M : Medium} {K : Type 0} (shows : K → Standing M) where
     answer = λ h stand waited. waited;
     bounded = record { bounds = refl; within = λ within. within };
     linked = λ h stand. stand;
+    as_many = refl;
     agreed = refl;
     clean = λ clean. clean;
     lives = λ clean s rests. record {
@@ -162,6 +163,7 @@ module _ {M N O : Medium} {K L J : Type 0} (shows : K → Standing M) (shows_mid
         };
         linked = λ h stand. subst (λ (l : LinkHappenings). LinksStand c.links l) (sym (along_links h))
             (second.linked (at_links early ++ h) (first.linked h stand));
+        as_many = second.as_many ∙ first.as_many;
         agreed = second.agreed ∙ first.agreed;
         clean = λ clean. first.clean (second.clean clean);
         lives = λ clean s rests.
@@ -183,6 +185,7 @@ module _ {M N : Medium} {K L : Type 0} (shows : K → Standing M) (shows_new : L
         answer = λ h stand waited. waited;
         bounded = subst (λ (g : Hub). KeepsBounds a.hub g) (sym it.hub) (record { bounds = refl; within = λ within. within });
         linked = λ h stand. subst (λ (t : LinkTable). LinksStand t h) (sym it.links) stand;
+        as_many = ap (λ (t : LinkTable). length (links_of t)) it.links;
         agreed = agreed;
         clean = it.desk.station.clean;
         lives = λ clean s rests. record {
@@ -246,16 +249,17 @@ module _ {M : Medium} {K : Type 0} (shows : K → Standing M) where
 -- What happens at no place: a moment that has come, a command.
 module _ {M : Medium} {K : Type 0} (shows : K → Standing M) (old new : Live K) (hub : new.hub ≡ old.hub)
     (agreed : new.desk.agreements.now ≡ old.desk.agreements.now) (clean : (shows new.desk.station).IsClean → (shows old.desk.station).IsClean) where
-  pub off_places : (what : LiveHistory) → at_places what ≡ []
+  pub off_places : (what : LiveHistory) → at_places what ≡ [] → length (links_of new.links) ≡ length (links_of old.links)
       → ((h : LinkHappenings) → LinksStand old.links h → LinksStand new.links (at_links what ++ h))
       → ((shows new.desk.station).IsClean → (s : State) → (shows old.desk.station).Rests s → LivesFrom shows new old.desk.agreements.now what s)
       → LivesBy shows old what new
-  off_places what none linked lives = record {
+  off_places what none as_many linked lives = record {
     stands = λ h stand. subst (λ (p : Happenings). StandAfter (places new.hub) (p ++ h)) (sym none)
         (subst (λ (g : Hub). StandAfter (places g) h) (sym hub) stand);
     answer = λ h stand waited. subst (λ (p : Happenings). AnswerWhatWaited (p ++ h)) (sym none) waited;
     bounded = subst (λ (g : Hub). KeepsBounds old.hub g) (sym hub) (record { bounds = refl; within = λ within. within });
     linked = linked;
+    as_many = as_many;
     agreed = agreed;
     clean = clean;
     lives = lives;
@@ -264,10 +268,13 @@ module _ {M : Medium} {K : Type 0} (shows : K → Standing M) (old new : Live K)
   same_links : new.links ≡ old.links → (h : LinkHappenings) → LinksStand old.links h → LinksStand new.links h
   same_links links h stand = subst (λ (t : LinkTable). LinksStand t h) (sym links) stand
 
+  as_many_same : new.links ≡ old.links → length (links_of new.links) ≡ length (links_of old.links)
+  as_many_same links = ap (λ (t : LinkTable). length (links_of t)) links
+
   -- nothing but a look at the records
   pub looked : ((shows new.desk.station).IsClean → (s : State) → (shows old.desk.station).Rests s → (shows new.desk.station).Rests s)
       → new.links ≡ old.links → LivesBy shows old [] new
-  looked same links = off_places [] refl (same_links links) (λ clean s rests.
+  looked same links = off_places [] refl (as_many_same links) (same_links links) (λ clean s rests.
       let A = old.desk.agreements.now in
       record {
         trace = [];
@@ -282,9 +289,10 @@ module _ {M : Medium} {K : Type 0} (shows : K → Standing M) (old new : Live K)
   pub began : (l : ℕ) (what : Next) (moment : ℕ) (said : EventResult)
       → ((shows new.desk.station).IsClean → (s : State) → (shows old.desk.station).Rests s
       → (t : State) × (shows new.desk.station).Rests t × Run old.desk.agreements.now s (AnEvent (begin_event what moment) said ∷ []) t)
+      → length (links_of new.links) ≡ length (links_of old.links)
       → ((h : LinkHappenings) → LinksStand old.links h → LinksStand new.links (opened_for l what said ++ h))
       → LivesBy shows old (BeginsTry l what moment said ∷ []) new
-  began l what moment said led linked = off_places (BeginsTry l what moment said ∷ []) refl
+  began l what moment said led as_many linked = off_places (BeginsTry l what moment said ∷ []) refl as_many
       (λ h stand. subst (λ (g : LinkHappenings). LinksStand new.links (g ++ h)) (sym (append-nil (opened_for l what said))) (linked h stand))
       (λ clean s rests.
       let it = led clean s rests in
@@ -303,9 +311,10 @@ module _ {M : Medium} {K : Type 0} (shows : K → Standing M) (old new : Live K)
   pub ended : (l : ℕ) (what : Next) (got : TryAnswer) (moment : ℕ) (said : EventResult)
       → ((shows new.desk.station).IsClean → (s : State) → (shows old.desk.station).Rests s
       → (t : State) × (shows new.desk.station).Rests t × Run old.desk.agreements.now s (AnEvent (outcome_event what got moment) said ∷ []) t)
+      → length (links_of new.links) ≡ length (links_of old.links)
       → ((h : LinkHappenings) → LinksStand old.links h → LinksStand new.links (Ends l what got ∷ h))
       → LivesBy shows old (EndsTry l what got moment said ∷ []) new
-  ended l what got moment said led linked = off_places (EndsTry l what got moment said ∷ []) refl linked (λ clean s rests.
+  ended l what got moment said led as_many linked = off_places (EndsTry l what got moment said ∷ []) refl as_many linked (λ clean s rests.
       let it = led clean s rests in
       let A = old.desk.agreements.now in
       let trace = AnEvent (outcome_event what got moment) said ∷ [] in
@@ -323,7 +332,7 @@ module _ {M : Medium} {K : Type 0} (shows : K → Standing M) (old new : Live K)
       → ((shows new.desk.station).IsClean → (s : State) → (shows old.desk.station).Rests s
       → LeadsByOne old.desk.agreements.now s (λ t. (shows new.desk.station).Rests t))
       → new.links ≡ old.links → LivesBy shows old (Commanded words ∷ []) new
-  commanded words led links = off_places (Commanded words ∷ []) refl (same_links links) (λ clean s rests.
+  commanded words led links = off_places (Commanded words ∷ []) refl (as_many_same links) (same_links links) (λ clean s rests.
       let it = led clean s rests in
       let A = old.desk.agreements.now in
       record {
@@ -340,7 +349,7 @@ module _ {M : Medium} {K : Type 0} (shows : K → Standing M) (old new : Live K)
       → ((shows new.desk.station).IsClean → (s : State) → (shows old.desk.station).Rests s
       → (t : State) × (shows new.desk.station).Rests t × Run old.desk.agreements.now s (AnEvent (Tick moment) said ∷ []) t)
       → new.links ≡ old.links → LivesBy shows old (Ticks moment said ∷ []) new
-  ticked moment said led links = off_places (Ticks moment said ∷ []) refl (same_links links) (λ clean s rests.
+  ticked moment said led links = off_places (Ticks moment said ∷ []) refl (as_many_same links) (same_links links) (λ clean s rests.
       let it = led clean s rests in
       let A = old.desk.agreements.now in
       let trace = AnEvent (Tick moment) said ∷ [] in
@@ -354,13 +363,14 @@ module _ {M : Medium} {K : Type 0} (shows : K → Standing M) (old new : Live K)
       })
 
 -- What happens at a link alone.
-module _ {M : Medium} {K : Type 0} (shows : K → Standing M) (old : Live K) (table : LinkTable) where
+module _ {M : Medium} {K : Type 0} (shows : K → Standing M) (old : Live K) (table : LinkTable)
+    (as_many : length (links_of table) ≡ length (links_of old.links)) where
   abbrev with_links : Live K
   with_links = record old { links = table }
 
   goes_on : (history : LiveHistory) → at_places history ≡ [] → ((A : AgreedValues) (s : State) → LeadsTo A s history [] s)
       → ((h : LinkHappenings) → LinksStand old.links h → LinksStand table (at_links history ++ h)) → LivesBy shows old history with_links
-  goes_on history none leads linked = off_places shows old with_links refl refl (λ clean. clean) history none linked (λ clean s rests.
+  goes_on history none leads linked = off_places shows old with_links refl refl (λ clean. clean) history none as_many linked (λ clean s rests.
       let A = old.desk.agreements.now in
       record {
         trace = [];

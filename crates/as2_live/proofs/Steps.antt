@@ -15,7 +15,7 @@ use Rattle.as2_front.specs.Answers.{conduct_by}
 use Rattle.as2_front.specs.Serving.{AnswersCalls}
 use Rattle.as2_front.proofs.Leading.{leads_on, serves_from}
 use Rattle.as2_front.specs.declared.desk.StationDesk.{StationDesk}
-use Rattle.as2_links.specs.Links.{LinksStand}
+use Rattle.as2_links.specs.Links.{LinksStand, links_of}
 use Rattle.as2_links.specs.declared.table.LinkTable.{LinkTable}
 use Rattle.as2_records.specs.Standing.{Medium, Standing}
 use Rattle.as2_station.proofs.ByHistory.{ends_by_history}
@@ -34,6 +34,7 @@ module _ {M : Medium} {K : Type 0} (shows : K → Standing M) (old new : Live K)
     answer = λ h stand waited. waits h waited;
     bounded = bounded;
     linked = λ h stand. subst (λ (t : LinkTable). LinksStand t h) (sym links) stand;
+    as_many = ap (λ (t : LinkTable). length (links_of t)) links;
     agreed = ap (λ (d : StationDesk K). d.agreements.now) same;
     clean = λ clean. subst (λ (d : StationDesk K). (shows d.station).IsClean) same clean;
     lives = λ clean s rests. record {
@@ -97,6 +98,7 @@ module _ {M : Medium} {K : Type 0} (shows : K → Standing M) (old new : Live K)
           answer = λ h stand waited. (it.answer h stand, waited);
           bounded = bounded;
           linked = λ h stand. subst (λ (t : LinkTable). LinksStand t h) (sym links) stand;
+          as_many = ap (λ (t : LinkTable). length (links_of t)) links;
           agreed = ap (λ (d : StationDesk K). d.agreements.now) leads.same;
           clean = λ clean. leads.clean clean;
           lives = λ clean s rests.

@@ -1,5 +1,5 @@
 -- What happens to a live station, and where it leads.
-use Rattle.std.specs.Prelude.{◌≡◌, ℕ, Bool, false, List, [], ◌∷◌, ◌++◌, map, slice_get, Option, Some, None, is_some, ⊤}
+use Rattle.std.specs.Prelude.{◌≡◌, ℕ, Bool, false, List, [], ◌∷◌, ◌++◌, length, map, slice_get, Option, Some, None, is_some, ⊤}
 use Rattle.as2_agreement.specs.Agreements.{AgreedValues}
 use Rattle.as2_exchange.specs.Run as run
 use Rattle.as2_exchange.specs.Run.{AnEvent, Answered, EventResult, Run, Trace}
@@ -8,6 +8,7 @@ use Rattle.as2_exchange.specs.declared.answer.Answer.TheVariants.{Job as Handed,
 use Rattle.as2_exchange.specs.declared.answer.Job.{Job}
 use Rattle.as2_exchange.specs.declared.event.Event.TheVariants.{Tick}
 use Rattle.as2_exchange.specs.declared.event.TryAnswer.{TryAnswer}
+use Rattle.as2_exchange.specs.declared.fault.StoreFault.{StoreFault}
 use Rattle.as2_exchange.specs.declared.next.Next.{Next}
 use Rattle.as2_http.specs.Streams.{RequestAndResponse, stream_events}
 use Rattle.as2_hub.specs.Bounded.{KeepsBounds}
@@ -145,12 +146,13 @@ module _ {M : Medium} {K : Type 0} (shows : K → Standing M) where
 
 module _ {M N : Medium} {K L : Type 0} (shows : K → Standing M) (shows_new : L → Standing N) where
   -- This happened in between. Whatever happened before, the connections stand as after it, and what waited was answered and nothing else.
-  -- The links stand as after it, and what happened at them was right. The records, perhaps of another type, stand for the state that it led to.
+  -- The links stand as after it, what happened at them was right, and there are as many places for them. The records, perhaps of another type, stand for the state that it led to.
   pub record LivesAcross (old : Live K) (history : LiveHistory) (new : Live L) : Type 0 where
     pub stands : (h : Happenings) → StandAfter (places old.hub) h → StandAfter (places new.hub) (at_places history ++ h)
     pub answer : (h : Happenings) → StandAfter (places old.hub) h → AnswerWhatWaited h → AnswerWhatWaited (at_places history ++ h)
     pub bounded : KeepsBounds old.hub new.hub
     pub linked : (h : LinkHappenings) → LinksStand old.links h → LinksStand new.links (at_links history ++ h)
+    pub as_many : length (links_of new.links) ≡ length (links_of old.links)
     pub agreed : new.desk.agreements.now ≡ old.desk.agreements.now
     pub clean : (shows_new new.desk.station).IsClean → (shows old.desk.station).IsClean
     pub lives : (shows_new new.desk.station).IsClean → (s : State) → (shows old.desk.station).Rests s
@@ -166,6 +168,20 @@ module _ {M N : Medium} {K L : Type 0} (shows : K → Standing M) (shows_new : L
     pub links : new.links ≡ old.links
     pub desk : PassesDesk shows shows_new old.desk new.desk
 
+-- of a place at which a try was begun, refused or failed
+abbrev pub IfPlace : TryBegun → Type 0 → Type 0
+IfPlace NoPlace P = ⊤
+IfPlace Begun P = P
+IfPlace (begun.Refused reason) P = P
+IfPlace (begun.Failed fault) P = P
+
+-- of the fault that came in place of a try's beginning
+abbrev pub IfFailed : TryBegun → (StoreFault → Type 0) → Type 0
+IfFailed Begun P = ⊤
+IfFailed NoPlace P = ⊤
+IfFailed (begun.Refused reason) P = ⊤
+IfFailed (begun.Failed fault) P = P fault
+
 module _ {M : Medium} {K : Type 0} (shows : K → Standing M) where
   -- a live station in a round that couldn't be committed
   pub record LosesLive (old new : Live K) : Type 0 where
@@ -179,14 +195,14 @@ module _ {M : Medium} {K : Type 0} (shows : K → Standing M) where
 
   -- a try began at that place, was refused, or a fault came; or no link could be opened there for it, and nothing happened
   abbrev pub BeginsOn : ℕ → Next → ℕ → Live K → Live K → TryBegun → Type 0
-  BeginsOn l what moment old new NoPlace = LivesBy old [] new × ¬ (MayOpen old.links l what)
+  BeginsOn l what moment old new NoPlace = LivesBy old [] new × (new ≡ old) × ¬ (MayOpen old.links l what)
   BeginsOn l what moment old new Begun = (job : Job) × LivesBy old (BeginsTry l what moment (Answered (Handed job)) ∷ []) new
   BeginsOn l what moment old new (begun.Refused reason) = LivesBy old (BeginsTry l what moment (Answered (Refused reason)) ∷ []) new
   BeginsOn l what moment old new (begun.Failed fault) = LivesBy old (BeginsTry l what moment (run.Failed fault) ∷ []) new
 
   -- the link there ended, with the outcome of its try, and why it failed where it did; or there was none, and nothing happened
   abbrev pub EndsOn : ℕ → ℕ → LinkFault → Live K → Live K → Option EndedTry → Type 0
-  EndsOn l moment fault old new None = LivesBy old [] new × (is_some (link_in (slice_get (links_of old.links) l)) ≡ false)
+  EndsOn l moment fault old new None = LivesBy old [] new × (new.desk ≡ old.desk) × (is_some (link_in (slice_get (links_of old.links) l)) ≡ false)
   EndsOn l moment fault old new (Some ended) =
       (got : TryAnswer) × (ended.why ≡ why_of got fault)
       × LivesBy old (EndsTry l ended.what got moment (said_as said_to_outcome ended.said) ∷ []) new

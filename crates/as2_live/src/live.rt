@@ -1,16 +1,18 @@
 //! A live station, as whoever has its sockets drives it.
-ghost use Rattle.std.specs.Prelude.{◌≡◌, ◌∷◌, [], IfErr, IfOk, min, is_some, length, slice_get, take, true};
+ghost use Rattle.std.specs.Prelude.{◌≡◌, ◌∷◌, ◌⊎◌, [], IfErr, IfOk, IfSome, min, is_some, length, slice_get, take, true};
 ghost use Rattle.as2_hub.specs.Places.{is_vacant, output_at, places, room_in};
 ghost use Rattle.as2_hub.specs.Happenings.{Closes};
 ghost use Rattle.as2_hub.specs.Inputs.{comes_if, goes_to, opens_if};
 ghost use Rattle.as2_exchange.specs.declared.answer.Answer.TheVariants.{Ticked};
+ghost use Rattle.as2_exchange.specs.declared.fault.StoreFault.TheVariants.{Full};
 ghost use Rattle.as2_station.specs.Theorem.{said_as};
 ghost use Rattle.as2_records.specs.Calls.{Reads};
 ghost use Rattle.as2_records.specs.Rounds.{StaysOpen};
+ghost use Rattle.as2_records.specs.Standing.{may_come};
 ghost use Rattle.as2_station.specs.Due.{destination, next_behind};
-ghost use Rattle.as2_live.specs.Living.{AnswersPlaces, BeginsOn, EndsOn, LivesBy, LosesLive, PassesLive, Ticks, all_at_places, at_a_link};
+ghost use Rattle.as2_live.specs.Living.{AnswersPlaces, BeginsOn, EndsOn, IfFailed, IfPlace, LivesBy, LosesLive, PassesLive, Ticks, all_at_places, at_a_link};
 ghost use Rattle.as2_links.specs.Happenings.{Cuts, Hears, Sends};
-ghost use Rattle.as2_links.specs.Links.{awaits_answer, link_in, links_of, unsent_at};
+ghost use Rattle.as2_links.specs.Links.{MayOpen, awaits_answer, link_in, links_of, unsent_at};
 
 use crate::tries::{EndedTry, TryBegun};
 use as2_exchange::{Bytes, Next, StoreFault};
@@ -94,6 +96,7 @@ impl<'a, K: Records> Live<'a, K> {
     /// records may come in its place, and nothing is changed then.
     pub fn tick(&mut self, moment: Moment) -> Result<u64, StoreFault>
         ensures ticks { LivesBy K.shows self.old (Ticks moment (said_as Ticked result) ∷ []) self.new }
+        ensures fault { IfErr result (λ f. (f ≡ Full) ⊎ (may_come f ≡ true)) }
     {
         self.desk.tick(moment)
     }
@@ -114,6 +117,7 @@ impl<'a, K: Records> Live<'a, K> {
     ) -> Result<Option<Next>, StoreFault>
         ensures next { Reads (λ s found. found ≡ next_behind s moment last) (K.shows self.old.desk.station)
             (K.shows self.new.desk.station) result }
+        ensures fault { IfErr result (λ f. may_come f ≡ true) }
         ensures lives { LivesBy K.shows self.old [] self.new }
     {
         self.desk.next_behind(moment, last)
@@ -123,6 +127,7 @@ impl<'a, K: Records> Live<'a, K> {
     pub fn destination(&mut self, what: Next) -> Result<Option<Bytes>, StoreFault>
         ensures destination { Reads (λ s found. found ≡ destination self.old.desk.agreements.now s what)
             (K.shows self.old.desk.station) (K.shows self.new.desk.station) result }
+        ensures fault { IfErr result (λ f. may_come f ≡ true) }
         ensures lives { LivesBy K.shows self.old [] self.new }
     {
         self.desk.destination(what)
@@ -132,6 +137,8 @@ impl<'a, K: Records> Live<'a, K> {
     /// NoPlace where no link can be opened there, or one is open for it, and then nothing is done.
     pub fn begin_try(&mut self, at: usize, what: Next, moment: Moment) -> TryBegun
         ensures begins { BeginsOn K.shows at what moment self.old self.new result }
+        ensures place { IfPlace result (MayOpen self.old.links at what) }
+        ensures fault { IfFailed result (λ f. (f ≡ Full) ⊎ (may_come f ≡ true)) }
     {
         if !self.links.may_open(at, what) {
             return TryBegun::NoPlace;
@@ -148,6 +155,7 @@ impl<'a, K: Records> Live<'a, K> {
 
     /// Takes bytes that came over the link there. None is taken before its whole request was written, nor behind a whole answer.
     pub fn link_heard(&mut self, at: usize, piece: &[u8])
+        ensures desk { self.new.desk ≡ self.old.desk }
         ensures lives { LivesBy K.shows self.old
             (at_a_link (awaits_answer (slice_get (links_of self.old.links) at)) (Hears at piece.now)) self.new }
     {
@@ -156,6 +164,7 @@ impl<'a, K: Records> Live<'a, K> {
 
     /// The partner sends no more over the link there.
     pub fn link_cut(&mut self, at: usize)
+        ensures desk { self.new.desk ≡ self.old.desk }
         ensures lives { LivesBy K.shows self.old
             (at_a_link (awaits_answer (slice_get (links_of self.old.links) at)) (Cuts at)) self.new }
     {
@@ -166,6 +175,7 @@ impl<'a, K: Records> Live<'a, K> {
     /// whole answer, where it brought none. None where no link is there.
     pub fn end_try(&mut self, at: usize, moment: Moment, fault: LinkFault) -> Option<EndedTry>
         ensures ends { EndsOn K.shows at moment fault self.old self.new result }
+        ensures fault { IfSome result (λ ended. IfErr ended.said (λ f. (f ≡ Full) ⊎ (may_come f ≡ true))) }
     {
         let Some(EndedLink { what, got }) = self.links.end(at) else {
             return None;
@@ -219,6 +229,7 @@ impl<'a, K: Rounds> Live<'a, K> {
 
     /// As many as this of the bytes that are to be written to the link there went, or all.
     pub fn link_sent(&mut self, at: usize, most: usize)
+        ensures desk { self.new.desk ≡ self.old.desk }
         ensures lives { LivesBy K.shows self.old (at_a_link (is_some (link_in (slice_get (links_of self.old.links) at)))
             (Sends at (take most (unsent_at (slice_get (links_of self.old.links) at))))) self.new }
     {

@@ -8,9 +8,9 @@ pub record PassesOn {M N : Medium} (old : Standing M) (new : Standing N) : Type 
   pub clean : new.IsClean → old.IsClean
   pub same : new.IsClean → (s : State) → old.Rests s → new.Rests s
 
--- open records are open still
+-- the records were open, and are open still
 abbrev pub StaysOpen : {M N : Medium} → Standing M → Standing N → Type 0
-StaysOpen old new = new.IsClean → IsTrue old.is_open → IsTrue new.is_open
+StaysOpen old new = new.IsClean → IsTrue old.is_open × IsTrue new.is_open
 
 -- a round that couldn't be committed: a fault has shut its records
 pub record IsLost {M : Medium} (old new : Standing M) : Type 0 where

@@ -37,7 +37,8 @@ module _ (sql : List ℕ) (plain : (way : Way) → IsPlain (understood (store_sc
     (is : (way : Way) → command_of (understood (store_schema way) sql) ≡ Select
     (record { lets = []; body = over_table (inbox_tree way) terms in_column_terms by_number (lit (Int (negsuc 0))) }) in_names) (params : Row)
     (p : InEntry → Bool) (same : (e : InEntry) → passes terms params (in_row e) ≡ p e) where
-  reads_entries : (old new : Connected) (rows : List Row) → Shown sql params old new rows → (s : State) → HoldsIfOpen old s → rows ≡ map in_shown (filter p s.inbox)
+  reads_entries : (old new : Connected) (rows : List Row) → Shown sql params old new rows → (s : State) → HoldsIfOpen old s
+      → rows ≡ map in_shown (filter p s.inbox)
   reads_entries old new rows h s r =
       let here = r (shown_open sql params old new rows h) in
       let way = here.way in

@@ -48,7 +48,8 @@ queried_inside {held = held} items sql params old new r inside ok err survives =
     go (Ok v) begun shown failed = shown_keeps sql params old new (items v) begun shown
     go (Err e) begun shown failed = failed_keeps sql params old new e failed
 
-    said : (r : Result _ Error) → IfOk r (λ v. Shown sql params old new (items v)) → IfErr r (λ e. FailsToQuery sql params old new e ⊎ IsTooLate sql params old new e)
+    said : (r : Result _ Error) → IfOk r (λ v. Shown sql params old new (items v))
+        → IfErr r (λ e. FailsToQuery sql params old new e ⊎ IsTooLate sql params old new e)
         → Came old new
     said (Ok v) shown failed = shown_marks sql params old new (items v) shown
     said (Err e) shown (inl failed) = came_of old new (fails_to_query sql params old new e failed)

@@ -17,7 +17,7 @@ use Rattle.sqlite.proofs.Callers.{IsPlain, command_of, runs_as}
 use Rattle.sqlite.proofs.StateLemmas.{survives_weaker}
 use Rattle.as2_exchange.specs.State.{State}
 use Rattle.as2_store.specs.Stands.{Holds, Rests}
-use Rattle.as2_store.specs.Rounds.{BeginsRound, EndsRound, in_round}
+use Rattle.as2_store.specs.Rounds.{BeginsRound, CommitsRound, in_round}
 use Rattle.as2_store.proofs.ListedRows.{rests_still}
 use Rattle.as2_store.proofs.Seen.{and_both}
 
@@ -46,7 +46,8 @@ commit_plain schema = (refl, refl)
 -- ---- what a statement leaves that fails
 
 -- it changes nothing, or all is rolled back
-pub failed_by : (sql : List ℕ) (params : Row) (old new : Connected) (e : Error) → Executes sql params old new (Err e) → IsUnchanged old new ⊎ IsRolledBack old new
+pub failed_by : (sql : List ℕ) (params : Row) (old new : Connected) (e : Error) → Executes sql params old new (Err e) → IsUnchanged old new
+    ⊎ IsRolledBack old new
 unfolding ExecutesIn IsNotRun
 failed_by sql params old new e (inl (inl refused)) = inl refused.1
 failed_by sql params old new e (inl (inr failed)) = inr failed.3
@@ -115,7 +116,7 @@ begins_none (Err f) e params old new err ran survives = record {
 -- ---- a round ends
 
 pub ends : {A : Type 0} (a : A) (params : Row) (old new : Connected) (count : ℕ) → (HasCleanDisk new → Executes commit_text params old new (Ok count))
-    → Survives old new (CommitsBy commit_text params old) → EndsRound {A = A} {E = Error} old new (Ok a)
+    → Survives old new (CommitsBy commit_text params old) → CommitsRound {A = A} {E = Error} old new (Ok a)
 ends a params old new count ran survives =
     let it = λ (clean : HasCleanDisk new). runs_as commit_text params old new old.now.schema refl Commit (commit_is _) (commit_plain _) count (ran clean) in
     record {
@@ -126,16 +127,18 @@ ends a params old new count ran survives =
           let shown = (it clean).1 in
           record {
             autocommit = shown.mode;
-            stands = λ _. subst (λ (d : Database). Holds d s) (sym shown.now_is) (rests.stands (and_both old.is_open old.in_transaction shown.was_open (it clean).0));
+            stands = λ _. subst (λ (d : Database). Holds d s) (sym shown.now_is)
+              (rests.stands (and_both old.is_open old.in_transaction shown.was_open (it clean).0));
             committed = λ _. shown.committed_is ∙ sym shown.now_is;
             knows = rests.knows;
           };
       ended = λ clean. (it clean).1.mode;
-      survives = survives_weaker old new (CommitsBy commit_text params old) (λ db. db ≡ old.now.trees) (λ clean db may. commit_commits_all params old db may) survives;
+      survives = survives_weaker old new (CommitsBy commit_text params old) (λ db. db ≡ old.now.trees)
+        (λ clean db may. commit_commits_all params old db may) survives;
     }
 
 pub ends_none : {A : Type 0} (r : Result A Error) (params : Row) (old new : Connected) → IsErr r → Survives old new (CommitsBy commit_text params old)
-    → EndsRound old new r
+    → CommitsRound old new r
 ends_none (Ok a) params old new err survives = absurd cc
 ends_none (Err f) params old new err survives = record {
   clean = λ clean. omega (arith, survives.clean, clean);
@@ -143,7 +146,8 @@ ends_none (Err f) params old new err survives = record {
   is_open = λ clean. tt;
   done = λ clean. tt;
   ended = λ clean. tt;
-  survives = survives_weaker old new (CommitsBy commit_text params old) (λ db. db ≡ old.now.trees) (λ clean db may. commit_commits_all params old db may) survives;
+  survives = survives_weaker old new (CommitsBy commit_text params old) (λ db. db ≡ old.now.trees)
+    (λ clean db may. commit_commits_all params old db may) survives;
 }
 
 -- ---- whose failure is told otherwise
@@ -160,11 +164,11 @@ module _ {A E F : Type 0} (old new : Connected) where
       record { clean = it.clean; was_open = it.was_open; begun = it.begun; refused = it.refused; survives = it.survives }
 
   pub ends_told : (r : Result A E) (told : Result A F) (Q : E → F → Type 0) → MatchResult r (λ x. told ≡ Ok x) (λ e. IsErrAnd told (Q e))
-      → EndsRound old new r → EndsRound old new told
+      → CommitsRound old new r → CommitsRound old new told
   ends_told (Ok x) told Q is it =
-      let same : EndsRound {A = A} {E = F} old new (Ok x) =
+      let same : CommitsRound {A = A} {E = F} old new (Ok x) =
       record { clean = it.clean; was_open = it.was_open; is_open = it.is_open; done = it.done; ended = it.ended; survives = it.survives } in
-      subst (EndsRound old new) (sym is) same
+      subst (CommitsRound old new) (sym is) same
   ends_told (Err e) (Ok x) Q is it = absurd is
   ends_told (Err e) (Err f) Q is it =
       record { clean = it.clean; was_open = it.was_open; is_open = it.is_open; done = it.done; ended = it.ended; survives = it.survives }

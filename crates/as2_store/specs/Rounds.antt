@@ -40,7 +40,7 @@ pub record BeginsRound {A E : Type 0} (old new : Connected) (r : Result A E) : T
   pub survives : Survives old new (λ _. ⊥)
 
 -- A round ends: what was seen is committed. Or that fails, and it is lost.
-pub record EndsRound {A E : Type 0} (old new : Connected) (r : Result A E) : Type 0 where
+pub record CommitsRound {A E : Type 0} (old new : Connected) (r : Result A E) : Type 0 where
   pub clean : HasCleanDisk new → HasCleanDisk old
   pub was_open : HasCleanDisk new → OnOk r (IsTrue (in_round old).is_open)
   pub is_open : HasCleanDisk new → OnOk r (IsTrue new.is_open)

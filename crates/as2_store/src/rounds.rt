@@ -2,7 +2,7 @@
 
 ghost use Rattle.std.specs.Prelude.{◌≡◌, false};
 ghost use Rattle.sqlite.specs.Held.{state};
-ghost use Rattle.as2_store.specs.Rounds.{BeginsRound, EndsRound};
+ghost use Rattle.as2_store.specs.Rounds.{BeginsRound, CommitsRound};
 
 use sqlite::{Alter, Connection, Error};
 
@@ -17,7 +17,7 @@ pub fn hold<S: Alter>(conn: &mut Connection<S>) -> Result<(), Error>
 
 /// Commits what was written in a round. Where that fails the round is lost.
 pub fn commit<S: Alter>(conn: &mut Connection<S>) -> Result<(), Error>
-    ensures ends { EndsRound (state S.Store conn.old) (state S.Store conn.new) result }
+    ensures ends { CommitsRound (state S.Store conn.old) (state S.Store conn.new) result }
 {
     conn.execute("COMMIT", &[])?;
     Ok(())

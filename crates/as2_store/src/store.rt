@@ -12,7 +12,7 @@ ghost use Rattle.as2_records.specs.Due.{numbers_behind};
 ghost use Rattle.as2_records.specs.Listing.{settled_numbers, listed_rows};
 ghost use Rattle.as2_records.specs.Adding.{state_with, added_document};
 ghost use Rattle.as2_store.specs.Calls.{Adopts, CommitsTables, CommitsFirst, Creates, IsGivenBack, IsReason};
-ghost use Rattle.as2_store.specs.Rounds.{BeginsRound, EndsRound, ReadsBy, WritesBy};
+ghost use Rattle.as2_store.specs.Rounds.{BeginsRound, CommitsRound, ReadsBy, WritesBy};
 ghost use Rattle.as2_store.specs.Expiring.{TicksTablesAs};
 ghost use Rattle.as2_records.specs.Expiring.{ticked_in};
 ghost use Rattle.as2_store.specs.Finding.{evidence_at};
@@ -158,7 +158,7 @@ impl<S: Alter> Store<S> {
 
     /// Commits what was written in a round. Answers Memory, Disk or Refused, and then the round is lost.
     pub fn commit(&mut self) -> Result<(), StoreFault>
-        ensures ends { EndsRound (state S.Store self.old) (state S.Store self.new) result }
+        ensures ends { CommitsRound (state S.Store self.old) (state S.Store self.new) result }
         ensures fault { IfErr result (λ f. may_come f ≡ true) }
     {
         rounds::commit(&mut self.conn).map_err(fault_of)

@@ -6,7 +6,7 @@ use Rattle.as2_desk.proofs.Stopping.{stopped_by}
 use Rattle.as2_desk.specs.Observed.{errors_of, filing_of, input_of, console_outcome, output_of, stored_of}
 use Rattle.as2_desk.specs.Runs.{Runs}
 use Rattle.as2_desk.specs.Statuses.{status_faulty, status_refused}
-use Rattle.as2_desk.specs.Stores.{Leaves}
+use Rattle.as2_desk.specs.Stores.{IsKeptAt}
 use Rattle.as2_commands.specs.declared.tasks.Task.{Task}
 use Rattle.as2_desk.proofs.desk.run.Goals as goal
 
@@ -26,7 +26,7 @@ returns-in-Ok-clause-runs g c = λ path store task gives.
     (λ (p b : Text) (t : Task). Runs (g.F.ReadFiles.content c.args.host.now.outside.files) p t
     (record {
       input = input_of g.R.Source c.args.console.now c.carry_out-done.new.console;
-      outcome = console_outcome g.W.Sink g.E.Sink c.args.console.now c.carry_out-done.new.console (Leaves b (g.O.OpenStores.keeps is b));
+      outcome = console_outcome g.W.Sink g.E.Sink c.args.console.now c.carry_out-done.new.console (IsKeptAt b (g.O.OpenStores.keeps is b));
       filing = filing_of g.F.MakeFiles c.args.host.now.outside.files c.carry_out-done.new.host.outside.files;
       Unasked = c.carry_out-done.new.host.outside.network ≡ c.args.host.now.outside.network;
       Exchanged = ExchangedOver g.N.Network g.N.Links.Links c.args.host.now.outside.network c.carry_out-done.new.host.outside.network;

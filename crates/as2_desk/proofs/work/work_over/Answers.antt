@@ -7,7 +7,7 @@ use Rattle.as2_host.specs.declared.stores.OpenStores.{Ghosts as Stores}
 use Rattle.as2_exchange.specs.State.{LaterVersion, State, empty}
 use Rattle.as2_desk.proofs.Opening.{clean_kept, each_left, goes_in_memory, goes_kept}
 use Rattle.as2_desk.specs.Observed.{filing_of, input_of, console_outcome, stored_of}
-use Rattle.as2_desk.specs.Stores.{ByPlace, Leaves, is_in_memory, opens_at}
+use Rattle.as2_desk.specs.Stores.{ByPlace, IsKeptAt, is_in_memory, opens_at}
 use Rattle.as2_desk.proofs.work.work_over.Goals as goal
 
 -- the store is in memory
@@ -22,7 +22,7 @@ returns-then-eq-clause-goes g c =
     (record { first = c.args.store.first; moment = c.args.terms.now.moment; limit = c.args.store.limit }) c.args.work
     (record {
       input = input_of g.R.Source c.args.console.now c.do_over.new.console;
-      outcome = console_outcome g.W.Sink g.E.Sink c.args.console.now c.do_over.new.console (Leaves path (g.O.OpenStores.keeps stores path));
+      outcome = console_outcome g.W.Sink g.E.Sink c.args.console.now c.do_over.new.console (IsKeptAt path (g.O.OpenStores.keeps stores path));
       filing = filing_of g.F.MakeFiles c.args.host.now.outside.files c.do_over.new.outside.files;
       Unasked = c.do_over.new.outside.network ≡ c.args.host.now.outside.network;
       Exchanged = ExchangedOver g.N.Network g.N.Links.Links c.args.host.now.outside.network c.do_over.new.outside.network;
@@ -62,7 +62,7 @@ returns-clause-goes g c =
     (record { first = c.args.store.first; moment = c.args.terms.now.moment; limit = c.args.store.limit }) c.args.work
     (record {
       input = input_of g.R.Source c.args.console.now c.do_over-left.new.console;
-      outcome = console_outcome g.W.Sink g.E.Sink c.args.console.now c.do_over-left.new.console (Leaves path (g.O.OpenStores.keeps stores path));
+      outcome = console_outcome g.W.Sink g.E.Sink c.args.console.now c.do_over-left.new.console (IsKeptAt path (g.O.OpenStores.keeps stores path));
       filing = filing_of g.F.MakeFiles c.args.host.now.outside.files c.do_over-left.new.outside.files;
       Unasked = c.do_over-left.new.outside.network ≡ c.args.host.now.outside.network;
       Exchanged = ExchangedOver g.N.Network g.N.Links.Links c.args.host.now.outside.network c.do_over-left.new.outside.network;
@@ -78,7 +78,7 @@ returns-clause-goes g c =
     c.close_in-refused.ensures.clean
     (each_left c.do_over-left.result.1 Clean (λ l t. (g.O.Opened.Records.shows l.records).Rests t)
     (λ t. (number : ℕ) → g.O.OpenStores.keeps stores path number t)
-    (Leaves path (g.O.OpenStores.keeps stores path)) c.close_in-refused.ensures.kept
+    (IsKeptAt path (g.O.OpenStores.keeps stores path)) c.close_in-refused.ensures.kept
     (λ t keeps. subst (λ (b : Bool). ByPlace b ⊤ ((number : ℕ) → g.O.OpenStores.keeps stores path number t)) (sym is) keeps))
 
 pub returns-clause-clean : goal.returns-clause-clean
@@ -90,7 +90,7 @@ returns-clause-clean g c =
     (record { first = c.args.store.first; moment = c.args.terms.now.moment; limit = c.args.store.limit }) c.args.work
     (record {
       input = input_of g.R.Source c.args.console.now c.do_over-left.new.console;
-      outcome = console_outcome g.W.Sink g.E.Sink c.args.console.now c.do_over-left.new.console (Leaves path (g.O.OpenStores.keeps stores path));
+      outcome = console_outcome g.W.Sink g.E.Sink c.args.console.now c.do_over-left.new.console (IsKeptAt path (g.O.OpenStores.keeps stores path));
       filing = filing_of g.F.MakeFiles c.args.host.now.outside.files c.do_over-left.new.outside.files;
       Unasked = c.do_over-left.new.outside.network ≡ c.args.host.now.outside.network;
       Exchanged = ExchangedOver g.N.Network g.N.Links.Links c.args.host.now.outside.network c.do_over-left.new.outside.network;

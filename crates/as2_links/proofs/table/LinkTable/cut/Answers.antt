@@ -1,7 +1,8 @@
-use Rattle.std.proofs.Common.{◌<◌, ◌∙◌, length, Some, Option, refl, ap, arith}
+use Rattle.std.proofs.Common.{◌<◌, ◌≤◌, ◌∙◌, length, Some, None, Option, refl, sym, ap, arith}
+use Rattle.std.specs.Prelude.{slice_set}
 use Rattle.as2_links.specs.Links.{links_of}
 use Rattle.as2_links.specs.declared.link.Link.{Link}
-use Rattle.as2_links.proofs.Standing.{cut, there, unchanged}
+use Rattle.as2_links.proofs.Standing.{beyond, cut, set_same, there, unchanged}
 use Rattle.as2_links.proofs.table.LinkTable.cut.Goals as goal
 
 pub returns-in_default-clause-stands : goal.returns-in_default-clause-stands
@@ -28,3 +29,37 @@ returns-clause-stands c =
     let here = there (links_of table) at c.index_mut.result.now within c.index_mut.ensures.value in
     λ h it. cut table _ at c.in-Some.link h within (here ∙ ap (λ (o : Option Link). Some o) c.in-Some.is) it c.cut.new.self refl
     c.cut.result (c.has_sent.ensures.whole cc) c.cut.ensures.holds c.cut.ensures.same
+
+-- what stood there is put back, or what came is put there: no other place changes
+pub returns-in_default-clause-only : goal.returns-in_default-clause-only
+returns-in_default-clause-only c = (c.index_mut.result.now, refl)
+
+pub returns-in_default-clause-none : goal.returns-in_default-clause-none
+returns-in_default-clause-none c is =
+    let links = links_of c.args.self.now in
+    let at = c.args.at in
+    let within : at < length links = omega (arith, c.args.self.now.links.ok.0) in
+    set_same links at c.index_mut.result.now (there links at c.index_mut.result.now within c.index_mut.ensures.value)
+
+pub returns-then-not-has_sent-clause-only : goal.returns-then-not-has_sent-clause-only
+returns-then-not-has_sent-clause-only c = (Some c.in-Some.link, refl)
+
+pub returns-then-not-has_sent-clause-none : goal.returns-then-not-has_sent-clause-none
+returns-then-not-has_sent-clause-none c is =
+    let links = links_of c.args.self.now in
+    let at = c.args.at in
+    let within : at < length links = omega (arith, c.args.self.now.links.ok.0) in
+    set_same links at (Some c.in-Some.link)
+    (there links at c.index_mut.result.now within c.index_mut.ensures.value ∙ ap (λ (o : Option Link). Some o) c.in-Some.is)
+
+pub returns-clause-only : goal.returns-clause-only
+returns-clause-only c = (Some c.cut.new.self, refl)
+
+pub returns-clause-none : goal.returns-clause-none
+returns-clause-none c is =
+    let links = links_of c.args.self.now in
+    let at = c.args.at in
+    let within : at < length links = omega (arith, c.args.self.now.links.ok.0) in
+    ap (λ (l : Link). slice_set links at (Some l)) (c.cut.ensures.same is)
+    ∙ set_same links at (Some c.in-Some.link)
+    (there links at c.index_mut.result.now within c.index_mut.ensures.value ∙ ap (λ (o : Option Link). Some o) c.in-Some.is)

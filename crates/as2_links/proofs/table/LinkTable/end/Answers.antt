@@ -23,3 +23,9 @@ returns-in-None-clause-stands c =
     let here = there (links_of table) at c.index_mut.result.now within c.index_mut.ensures.value in
     let at_place = here ∙ ap (λ (o : Option Link). Some o) (sym c.replace.ensures.value ∙ c.in-None.is) in
     λ h it. unchanged table _ at None at_place (ap (slice_set (links_of table) at) c.replace.ensures.after) h it
+
+pub returns-in-Some-clause-empties : goal.returns-in-Some-clause-empties
+returns-in-Some-clause-empties c = ap (slice_set (links_of c.args.self.now) c.args.at) c.replace.ensures.after
+
+pub returns-in-None-clause-empties : goal.returns-in-None-clause-empties
+returns-in-None-clause-empties c = ap (slice_set (links_of c.args.self.now) c.args.at) c.replace.ensures.after

@@ -9,4 +9,5 @@ use Rattle.as2_store.proofs.store.Store.due_out.Goals as goal
 pub returns-clause-due : goal.returns-clause-due
 returns-clause-due g c =
     read_of _ _ _ _ _ (ap (state g.S.Store) c.self.view_is)
-    (reads_less _ _ _ _ _ (λ s number r is. is ∙ ap (λ ks. least (numbers_behind c.args.behind ks)) (due_are_documents c.args.moment s)) c.least_due.ensures.due)
+    (reads_less _ _ _ _ _ (λ s number r is. is
+      ∙ ap (λ ks. least (numbers_behind c.args.behind ks)) (due_are_documents c.args.moment s)) c.least_due.ensures.due)
