@@ -88,8 +88,10 @@ keeps_marks held sql params old new (Err e) (inr refused) on long = ap (take hel
 -- one that ends the transaction leaves none marked, and all committed
 pub settled_by : (old new : Connected) → IsTrue old.in_transaction → IsUnchanged old new ⊎ IsRolledBack old new → IsSettled new
 settled_by old new on (inl same) =
-    record { unmarked = λ off. absurd (true≢false (sym on ∙ sym same.0.mode ∙ off));
-      committed = λ off opened. absurd (true≢false (sym on ∙ sym same.0.mode ∙ off)) }
+    record {
+      unmarked = λ off. absurd (true≢false (sym on ∙ sym same.0.mode ∙ off));
+      committed = λ off opened. absurd (true≢false (sym on ∙ sym same.0.mode ∙ off));
+    }
 settled_by old new on (inr back) =
     record { unmarked = λ off. back.unmarked; committed = λ off opened. (back.undone opened).0 ∙ sym (back.undone opened).1 }
 

@@ -71,8 +71,10 @@ module _ (old begun last : Connected) (at : ℕ) (marked : HasCleanDisk begun �
   unmarked clean off =
       let it = marked (inside.clean clean) in
       let begins : IsTrue begun.in_transaction = it.1.0.mode in
-      (inside.settled clean (record { unmarked = λ idle. absurd (true≢false (sym begins ∙ idle));
-        committed = λ idle opened. absurd (true≢false (sym begins ∙ idle)) })).unmarked off
+      (inside.settled clean (record {
+        unmarked = λ idle. absurd (true≢false (sym begins ∙ idle));
+        committed = λ idle opened. absurd (true≢false (sym begins ∙ idle));
+      })).unmarked off
 
   -- whatever is at its place is the mark, and the transaction goes on
   is_mark : HasCleanDisk last → (it : Savepoint) → slice_get last.marks at ≡ Some it → (it ≡ mark) × IsTrue last.in_transaction
@@ -131,7 +133,7 @@ module _ (old begun last : Connected) (at : ℕ) (marked : HasCleanDisk begun �
         let same = idle.2 in
         let begins : IsTrue begun.in_transaction = (marked (inside.clean clean)).1.0.mode in
         let settled = inside.settled clean
-          (record { unmarked = λ none. absurd (true≢false (sym begins ∙ none)); committed = λ none opened. absurd (true≢false (sym begins ∙ none)) }) in
+        (record { unmarked = λ none. absurd (true≢false (sym begins ∙ none)); committed = λ none opened. absurd (true≢false (sym begins ∙ none)) }) in
         record {
           was_open = λ opened. same.0.was_open;
           undone = λ opened. (same.0.now_is ∙ settled.committed off same.0.was_open, same.0.committed_is);
@@ -257,7 +259,7 @@ module _ (old begun last : Connected) (at : ℕ) (marked : HasCleanDisk begun �
                       lasts = record {
                         each = λ db may. subst (λ (t : Trees). Keeps t next.0)
                             (sym (settled db (shown clean).is_open may ∙ ap (λ (d : Database). d.trees) (shown clean).committed_is))
-                              (keeps_of last.now next.0 next.2);
+                            (keeps_of last.now next.0 next.2);
                       };
                     };
                 failed = λ clean. tt;

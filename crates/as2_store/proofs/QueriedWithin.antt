@@ -83,7 +83,7 @@ module _ {V : Type 0} (items : V → List Row) (sql : List ℕ) (params : Row) (
         clean = λ clean. omega (arith, nothing.clean, clean);
         was_open = λ clean. and_both old.is_open old.in_transaction (opened clean) on;
         is_open = λ clean. and_both new.is_open new.in_transaction (shown_is_open sql params old new (items v) (ok clean))
-          (shown_stays sql params old new (items v) on (ok clean));
+            (shown_stays sql params old new (items v) on (ok clean));
         answer = λ clean s r.
             let it = holds_seen old s on (opened clean) r in
             shown_alike old old new refl refl sql params (items v) (subst (λ k. IsPlain (understood k sql)) (sym it.stands.schema) (plain it.way)) (ok clean);

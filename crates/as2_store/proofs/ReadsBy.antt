@@ -170,7 +170,7 @@ read_then fits more all old mid new a r then one two = record {
         (one.within on) (two.within still)
     | inr off ↦
         let dirty : HasCleanDisk new
-          → ⊥ = λ clean. true≢false (sym (both mid.is_open mid.in_transaction ((one.within on).is_open ((two.alone off).clean clean))).1 ∙ off) in
+        → ⊥ = λ clean. true≢false (sym (both mid.is_open mid.in_transaction ((one.within on).is_open ((two.alone off).clean clean))).1 ∙ off) in
         unclean all (in_round old) (in_round new) r dirty
         (seen old new (CommitsTables Some (in_round old)) on
         (survives_then old mid new (λ _. ⊥) (CommitsTables Some mid) (CommitsTables Some mid) (λ _ db none. absurd none) (λ _ db is. is)

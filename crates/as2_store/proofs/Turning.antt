@@ -128,13 +128,13 @@ ends a params old new count ran survives =
           record {
             autocommit = shown.mode;
             stands = λ _. subst (λ (d : Database). Holds d s) (sym shown.now_is)
-              (rests.stands (and_both old.is_open old.in_transaction shown.was_open (it clean).0));
+                (rests.stands (and_both old.is_open old.in_transaction shown.was_open (it clean).0));
             committed = λ _. shown.committed_is ∙ sym shown.now_is;
             knows = rests.knows;
           };
       ended = λ clean. (it clean).1.mode;
       survives = survives_weaker old new (CommitsBy commit_text params old) (λ db. db ≡ old.now.trees)
-        (λ clean db may. commit_commits_all params old db may) survives;
+          (λ clean db may. commit_commits_all params old db may) survives;
     }
 
 pub ends_none : {A : Type 0} (r : Result A Error) (params : Row) (old new : Connected) → IsErr r → Survives old new (CommitsBy commit_text params old)
@@ -147,7 +147,7 @@ ends_none (Err f) params old new err survives = record {
   done = λ clean. tt;
   ended = λ clean. tt;
   survives = survives_weaker old new (CommitsBy commit_text params old) (λ db. db ≡ old.now.trees)
-    (λ clean db may. commit_commits_all params old db may) survives;
+      (λ clean db may. commit_commits_all params old db may) survives;
 }
 
 -- ---- whose failure is told otherwise

@@ -37,7 +37,7 @@ pub returns-in_err-put_received : goal.returns-in_err-put_received
 returns-in_err-put_received g c = record {
   added = drops g.S.Store c.args.conn.now c.in_ok-tx.tx.conn.now c.in_ok-tx.tx.at c.in_ok-tx.ensures.ok c.in_ok-tx.ensures.survives
       (state g.S.Store c.put_received.new.tx.conn.now) c.put_received.ensures.within c.drop-tx.new.self.0 c.conn-in_err-put_received-1.given.0
-        (search rules) c.put_received.new.tx.at
+      (search rules) c.put_received.new.tx.at
       c.put_received.ensures.place (state_with c.args.entry.now) c.from_residual-in_err-put_received.result c.from_residual-in_err-put_received.ensures.0
       c.drop-tx.ensures.survives c.drop-tx.ensures.undone;
 }
@@ -48,7 +48,7 @@ returns-in_err-raise_next_receipt g c =
     record {
       added = drops g.S.Store c.args.conn.now c.in_ok-tx.tx.conn.now c.in_ok-tx.tx.at c.in_ok-tx.ensures.ok c.in_ok-tx.ensures.survives
           (state g.S.Store c.raise_next_receipt.new.tx.conn.now)
-            (inside g at) c.drop-tx-in_err-raise_next_receipt.new.self.0 c.conn-in_err-raise_next_receipt-1.given.0 (search rules)
+          (inside g at) c.drop-tx-in_err-raise_next_receipt.new.self.0 c.conn-in_err-raise_next_receipt-1.given.0 (search rules)
           c.raise_next_receipt.new.tx.at (here g at) (state_with c.args.entry.now) c.from_residual-in_err-raise_next_receipt.result
           c.from_residual-in_err-raise_next_receipt.ensures.0 c.drop-tx-in_err-raise_next_receipt.ensures.survives
           c.drop-tx-in_err-raise_next_receipt.ensures.undone;
@@ -60,7 +60,7 @@ returns-then-branch-eq0 g c =
     record {
       added = drops g.S.Store c.args.conn.now c.in_ok-tx.tx.conn.now c.in_ok-tx.tx.at c.in_ok-tx.ensures.ok c.in_ok-tx.ensures.survives
           (state g.S.Store c.raise_next_receipt.new.tx.conn.now)
-            (inside g at) c.drop-tx-then-branch-eq0.new.self.0 c.conn-then-branch-eq0-1.given.0 (search rules)
+          (inside g at) c.drop-tx-then-branch-eq0.new.self.0 c.conn-then-branch-eq0-1.given.0 (search rules)
           c.raise_next_receipt.new.tx.at (here g at) (state_with c.args.entry.now) (Err QueryReturnedNoRows) refl
           c.drop-tx-then-branch-eq0.ensures.survives c.drop-tx-then-branch-eq0.ensures.undone;
     }

@@ -19,7 +19,7 @@ returns-clause-due g c =
     let rows = mapped _ _ _ _ _ _ _ c.map_err-2.ensures.cases c.in_ok-rows.was c.least_due_rows.ensures.rows in
     read_then _ _ _ _ _ _ c.in_ok-any.any c.map_err-3.result (λ s b r some is. is) none
     (read_told _ (λ s number. number ≡ least
-      (numbers_behind c.args.behind (due_numbers (kind_code c.args.wait) c.args.moment s))) _ _ c.in_ok-rows.rows c.number_in.result _ _ _
+    (numbers_behind c.args.behind (due_numbers (kind_code c.args.wait) c.args.moment s))) _ _ c.in_ok-rows.rows c.number_in.result _ _ _
     c.map_err-3.ensures.cases c.number_in.ensures
     (λ s found told shown. told (least (numbers_behind c.args.behind (due_numbers (kind_code c.args.wait) c.args.moment s)))
-      (c.deref.ensures.value ∙ shown)) rows)
+    (c.deref.ensures.value ∙ shown)) rows)

@@ -24,7 +24,7 @@ second_ran : (g : Over) (c : After-pass_due-2 g)
     → IsInside (c.in_ok-tx.tx.at + 1) (state g.S.Store c.in_ok-tx.tx.conn.now) (state g.S.Store c.pass_due-2.new.tx.conn.now)
 second_ran g c = inside_then _ (state g.S.Store c.pass_due.new.tx.conn.now) (state g.S.Store c.pass_due-2.new.tx.conn.now) c.pass_due.ensures.within
     (subst (λ at. IsInside (at + 1) (state g.S.Store c.pass_due.new.tx.conn.now)
-      (state g.S.Store c.pass_due-2.new.tx.conn.now)) c.pass_due.ensures.place c.pass_due-2.ensures.within)
+    (state g.S.Store c.pass_due-2.new.tx.conn.now)) c.pass_due.ensures.place c.pass_due-2.ensures.within)
 
 -- in the same savepoint
 second_place : (g : Over) (c : After-pass_due-2 g) → c.pass_due-2.new.tx.at ≡ c.in_ok-tx.tx.at
@@ -54,7 +54,7 @@ passed : (g : Over) (c : After-commit g) → HasCleanDisk (state g.S.Store c.pas
     → Follows (state g.S.Store c.in_ok-tx.tx.conn.now) (state g.S.Store c.pass_due-2.new.tx.conn.now) (ticked_in c.args.moment)
 passed g c =
     time_passes (state g.S.Store c.in_ok-tx.tx.conn.now) (state g.S.Store c.pass_due.new.tx.conn.now)
-      (state g.S.Store c.pass_due-2.new.tx.conn.now) c.args.moment
+    (state g.S.Store c.pass_due-2.new.tx.conn.now) c.args.moment
     c.in_ok-overdue.overdue c.in_ok-used_up.used_up c.pass_due-2.ensures.within.clean c.in_ok-overdue.ensures.open c.in_ok-overdue.ensures.passed
     c.in_ok-used_up.ensures.passed
 
@@ -62,7 +62,7 @@ pub returns-in_err-overdue-clause-passed : goal.returns-in_err-overdue-clause-pa
 returns-in_err-overdue-clause-passed g c =
     drops g.S.Store c.args.conn.now c.in_ok-tx.tx.conn.now c.in_ok-tx.tx.at c.in_ok-tx.ensures.ok c.in_ok-tx.ensures.survives
     (state g.S.Store c.pass_due.new.tx.conn.now) c.pass_due.ensures.within c.drop-tx.new.self.0 c.conn-in_err-overdue-1.given.0
-      (search rules) c.pass_due.new.tx.at c.pass_due.ensures.place
+    (search rules) c.pass_due.new.tx.at c.pass_due.ensures.place
     (ticked_in c.args.moment) c.from_residual-in_err-overdue.result c.from_residual-in_err-overdue.ensures.0 c.drop-tx.ensures.survives c.drop-tx.ensures.undone
 
 pub returns-in_err-used_up-clause-passed : goal.returns-in_err-used_up-clause-passed
@@ -70,7 +70,7 @@ returns-in_err-used_up-clause-passed g c =
     let at = (goal.at.returns-in_err-used_up-clause-passed g c).After-pass_due-2 in
     drops g.S.Store c.args.conn.now c.in_ok-tx.tx.conn.now c.in_ok-tx.tx.at c.in_ok-tx.ensures.ok c.in_ok-tx.ensures.survives
     (state g.S.Store c.pass_due-2.new.tx.conn.now) (second_ran g at) c.drop-tx-in_err-used_up.new.self.0 c.conn-in_err-used_up-1.given.0
-      (search rules) c.pass_due-2.new.tx.at (second_place g at)
+    (search rules) c.pass_due-2.new.tx.at (second_place g at)
     (ticked_in c.args.moment) c.from_residual-in_err-used_up.result c.from_residual-in_err-used_up.ensures.0 c.drop-tx-in_err-used_up.ensures.survives c.drop-tx-in_err-used_up.ensures.undone
 
 pub returns-in_default-clause-passed : goal.returns-in_default-clause-passed
@@ -78,7 +78,7 @@ returns-in_default-clause-passed g c =
     let at = (goal.at.returns-in_default-clause-passed g c).After-pass_due-2 in
     drops g.S.Store c.args.conn.now c.in_ok-tx.tx.conn.now c.in_ok-tx.tx.at c.in_ok-tx.ensures.ok c.in_ok-tx.ensures.survives
     (state g.S.Store c.pass_due-2.new.tx.conn.now) (second_ran g at) c.drop-tx-in_default.new.self.0 c.conn-in_default-1.given.0
-      (search rules) c.pass_due-2.new.tx.at (second_place g at)
+    (search rules) c.pass_due-2.new.tx.at (second_place g at)
     (ticked_in c.args.moment) (Err (SqliteFailure OutOfMemory)) refl c.drop-tx-in_default.ensures.survives c.drop-tx-in_default.ensures.undone
 
 pub returns-in_err-commit-clause-passed : goal.returns-in_err-commit-clause-passed
@@ -87,7 +87,7 @@ returns-in_err-commit-clause-passed g c =
     let at = (goal.at.After-commit g done).After-pass_due-2 in
     fails_to_commit g.S.Store c.args.conn.now c.in_ok-tx.tx.conn.now c.in_ok-tx.tx.at c.in_ok-tx.ensures.ok c.in_ok-tx.ensures.survives
     (state g.S.Store c.pass_due-2.new.tx.conn.now) (second_ran g at) c.commit.new.self.0 c.conn-2-1.given.0 (search rules) c.pass_due-2.new.tx.at
-      (second_place g at)
+    (second_place g at)
     (ticked_in c.args.moment) c.from_residual-in_err-commit.result _ c.from_residual-in_err-commit.ensures.0 c.commit.ensures.survives (passed g done)
     c.in_ok-used_up.ensures.inside c.in_err-commit.ensures.err
 
@@ -97,6 +97,6 @@ returns-clause-passed g c =
     let at = (goal.at.After-commit g done).After-pass_due-2 in
     commits g.S.Store c.args.conn.now c.in_ok-tx.tx.conn.now c.in_ok-tx.tx.at c.in_ok-tx.ensures.ok c.in_ok-tx.ensures.survives
     (state g.S.Store c.pass_due-2.new.tx.conn.now) (second_ran g at) c.commit.new.self.0 c.conn-2-1.given.0 (search rules) c.pass_due-2.new.tx.at
-      (second_place g at)
+    (second_place g at)
     (ticked_in c.args.moment) c.in-Some.count c.commit.ensures.survives (passed g done) c.in_ok-used_up.ensures.inside
     c.in_ok-commit.ensures.ok (λ db opened may. g.met.S.Store.settled c.commit.new.self.0.store db opened may)

@@ -48,7 +48,7 @@ returns-in_err-take_due-clause-within g c =
     inside_at old (state g.S.Store c.pass_each.new.tx.conn.now) (state g.S.Store c.take_due.new.tx.conn.now) c.args.tx.now.at c.pass_each.new.tx.at
     (c.pass_each.ensures.place ∙ c.due_rows.ensures.place)
     (inside_at old (state g.S.Store c.due_rows.new.tx.conn.now)
-      (state g.S.Store c.pass_each.new.tx.conn.now) c.args.tx.now.at c.due_rows.new.tx.at c.due_rows.ensures.place
+    (state g.S.Store c.pass_each.new.tx.conn.now) c.args.tx.now.at c.due_rows.new.tx.at c.due_rows.ensures.place
     c.due_rows.ensures.within c.pass_each.ensures.within) c.take_due.ensures.within
 
 pub returns-clause-within : goal.returns-clause-within
@@ -57,11 +57,11 @@ returns-clause-within g c =
     inside_at old (state g.S.Store c.pass_each.new.tx.conn.now) (state g.S.Store c.take_due.new.tx.conn.now) c.args.tx.now.at c.pass_each.new.tx.at
     (c.pass_each.ensures.place ∙ c.due_rows.ensures.place)
     (inside_at old (state g.S.Store c.due_rows.new.tx.conn.now)
-      (state g.S.Store c.pass_each.new.tx.conn.now) c.args.tx.now.at c.due_rows.new.tx.at c.due_rows.ensures.place
+    (state g.S.Store c.pass_each.new.tx.conn.now) c.args.tx.now.at c.due_rows.new.tx.at c.due_rows.ensures.place
     c.due_rows.ensures.within c.pass_each.ensures.within) c.take_due.ensures.within
 
 pub returns-in_err-pass_each-clause-within : goal.returns-in_err-pass_each-clause-within
 returns-in_err-pass_each-clause-within g c =
     inside_at (state g.S.Store c.args.tx.now.conn.now) (state g.S.Store c.due_rows.new.tx.conn.now)
-      (state g.S.Store c.pass_each.new.tx.conn.now) c.args.tx.now.at c.due_rows.new.tx.at c.due_rows.ensures.place
+    (state g.S.Store c.pass_each.new.tx.conn.now) c.args.tx.now.at c.due_rows.new.tx.at c.due_rows.ensures.place
     c.due_rows.ensures.within c.pass_each.ensures.within

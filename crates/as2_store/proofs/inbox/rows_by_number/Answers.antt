@@ -21,6 +21,6 @@ returns g c = record {
       reads_less _ _ old (state g.S.Store c.query_all.new.conn) c.query_all.result
       (λ s rows r shown.
       let it : Shown in_by_number_text (by_number_params w) old old rows.items =
-        rw (c.params-to_sql.ensures, c.whole-param.ensures, fits_i64 w fits) at shown in
+      rw (c.params-to_sql.ensures, c.whole-param.ensures, fits_i64 w fits) at shown in
       finds_number c.args.number w c.asked-wanted.ensures.beyond c.asked-wanted.ensures.within old old rows.items it s r) c.query_all.ensures.shown;
 }

@@ -22,16 +22,16 @@ pub returns-in_err-put_origin-clause-within : goal.returns-in_err-put_origin-cla
 returns-in_err-put_origin-clause-within g c =
     let old = state g.S.Store c.args.tx.now.conn.now in
     inside_then old (state g.S.Store c.empty_first.new.tx.conn.now) (state g.S.Store c.put_origin.new.tx.conn.now)
-      (inside_then old (state g.S.Store c.move_contents.new.tx.conn.now) (state g.S.Store c.empty_first.new.tx.conn.now)
-      (inside_then old (state g.S.Store c.copy_inbox.new.tx.conn.now) (state g.S.Store c.move_contents.new.tx.conn.now)
-      (inside_then old (state g.S.Store c.make_beside.new.tx.conn.now)
-      (state g.S.Store c.copy_inbox.new.tx.conn.now) c.make_beside.ensures.within c.copy_inbox.ensures.within) c.move_contents.ensures.within) c.empty_first.ensures.within) c.put_origin.ensures.within
+    (inside_then old (state g.S.Store c.move_contents.new.tx.conn.now) (state g.S.Store c.empty_first.new.tx.conn.now)
+    (inside_then old (state g.S.Store c.copy_inbox.new.tx.conn.now) (state g.S.Store c.move_contents.new.tx.conn.now)
+    (inside_then old (state g.S.Store c.make_beside.new.tx.conn.now)
+    (state g.S.Store c.copy_inbox.new.tx.conn.now) c.make_beside.ensures.within c.copy_inbox.ensures.within) c.move_contents.ensures.within) c.empty_first.ensures.within) c.put_origin.ensures.within
 
 pub returns-clause-within : goal.returns-clause-within
 returns-clause-within g c =
     let old = state g.S.Store c.args.tx.now.conn.now in
     inside_then old (state g.S.Store c.empty_first.new.tx.conn.now) (state g.S.Store c.put_origin.new.tx.conn.now)
-      (inside_then old (state g.S.Store c.move_contents.new.tx.conn.now) (state g.S.Store c.empty_first.new.tx.conn.now)
-      (inside_then old (state g.S.Store c.copy_inbox.new.tx.conn.now) (state g.S.Store c.move_contents.new.tx.conn.now)
-      (inside_then old (state g.S.Store c.make_beside.new.tx.conn.now)
-      (state g.S.Store c.copy_inbox.new.tx.conn.now) c.make_beside.ensures.within c.copy_inbox.ensures.within) c.move_contents.ensures.within) c.empty_first.ensures.within) c.put_origin.ensures.within
+    (inside_then old (state g.S.Store c.move_contents.new.tx.conn.now) (state g.S.Store c.empty_first.new.tx.conn.now)
+    (inside_then old (state g.S.Store c.copy_inbox.new.tx.conn.now) (state g.S.Store c.move_contents.new.tx.conn.now)
+    (inside_then old (state g.S.Store c.make_beside.new.tx.conn.now)
+    (state g.S.Store c.copy_inbox.new.tx.conn.now) c.make_beside.ensures.within c.copy_inbox.ensures.within) c.move_contents.ensures.within) c.empty_first.ensures.within) c.put_origin.ensures.within

@@ -18,7 +18,7 @@ second_ran : (g : Over) (c : After-answer_for g)
 second_ran g c = inside_then _ (state g.S.Store c.set_receipt_row.new.tx.conn.now)
     (state g.S.Store c.answer_for.new.tx.conn.now) c.set_receipt_row.ensures.within
     (subst (λ at. IsInside (at + 1) (state g.S.Store c.set_receipt_row.new.tx.conn.now)
-      (state g.S.Store c.answer_for.new.tx.conn.now)) c.set_receipt_row.ensures.place c.answer_for.ensures.within)
+    (state g.S.Store c.answer_for.new.tx.conn.now)) c.set_receipt_row.ensures.place c.answer_for.ensures.within)
 
 -- in the same savepoint
 second_place : (g : Over) (c : After-answer_for g) → c.answer_for.new.tx.at ≡ c.in_ok-tx.tx.at
@@ -53,8 +53,8 @@ returns-in_err-answer_for g c =
     record {
       set = drops g.S.Store c.args.conn.now c.in_ok-tx.tx.conn.now c.in_ok-tx.tx.at c.in_ok-tx.ensures.ok c.in_ok-tx.ensures.survives
           (state g.S.Store c.answer_for.new.tx.conn.now)
-            (second_ran g at) c.drop-tx-in_err-answer_for.new.self.0 c.conn-in_err-answer_for-1.given.0 (search rules) c.answer_for.new.tx.at
-            (second_place g at)
+          (second_ran g at) c.drop-tx-in_err-answer_for.new.self.0 c.conn-in_err-answer_for-1.given.0 (search rules) c.answer_for.new.tx.at
+          (second_place g at)
           (set_receipt_in c.args.number c.args.progress) c.from_residual-in_err-answer_for.result c.from_residual-in_err-answer_for.ensures.0 c.drop-tx-in_err-answer_for.ensures.survives c.drop-tx-in_err-answer_for.ensures.undone;
     }
 
@@ -64,7 +64,7 @@ returns-in_err-commit g c =
     record {
       set = fails_to_commit g.S.Store c.args.conn.now c.in_ok-tx.tx.conn.now c.in_ok-tx.tx.at c.in_ok-tx.ensures.ok c.in_ok-tx.ensures.survives
           (state g.S.Store c.set_receipt_row.new.tx.conn.now) c.set_receipt_row.ensures.within c.commit.new.self.0 c.conn-then-branch-eq0-1.given.0
-            (search rules) c.set_receipt_row.new.tx.at c.set_receipt_row.ensures.place
+          (search rules) c.set_receipt_row.new.tx.at c.set_receipt_row.ensures.place
           (set_receipt_in c.args.number c.args.progress) c.from_residual-in_err-commit.result _ c.from_residual-in_err-commit.ensures.0 c.commit.ensures.survives (none g done)
           c.in_ok-set_receipt_row.ensures.inside c.in_err-commit.ensures.err;
     }
@@ -75,7 +75,7 @@ returns-then-branch-eq0 g c =
     record {
       set = commits g.S.Store c.args.conn.now c.in_ok-tx.tx.conn.now c.in_ok-tx.tx.at c.in_ok-tx.ensures.ok c.in_ok-tx.ensures.survives
           (state g.S.Store c.set_receipt_row.new.tx.conn.now) c.set_receipt_row.ensures.within c.commit.new.self.0 c.conn-then-branch-eq0-1.given.0
-            (search rules) c.set_receipt_row.new.tx.at c.set_receipt_row.ensures.place
+          (search rules) c.set_receipt_row.new.tx.at c.set_receipt_row.ensures.place
           (set_receipt_in c.args.number c.args.progress) tt c.commit.ensures.survives (none g done) c.in_ok-set_receipt_row.ensures.inside
           c.in_ok-commit.ensures.ok (λ db opened may. g.met.S.Store.settled c.commit.new.self.0.store db opened may);
     }
@@ -87,7 +87,7 @@ returns-in_err-commit-2 g c =
     record {
       set = fails_to_commit g.S.Store c.args.conn.now c.in_ok-tx.tx.conn.now c.in_ok-tx.tx.at c.in_ok-tx.ensures.ok c.in_ok-tx.ensures.survives
           (state g.S.Store c.answer_for.new.tx.conn.now) (second_ran g at) c.commit-2.new.self.0 c.conn-2-1.given.0
-            (search rules) c.answer_for.new.tx.at (second_place g at)
+          (search rules) c.answer_for.new.tx.at (second_place g at)
           (set_receipt_in c.args.number c.args.progress) c.from_residual-in_err-commit-2.result _ c.from_residual-in_err-commit-2.ensures.0 c.commit-2.ensures.survives (some g done)
           c.in_ok-answer_for.ensures.inside c.in_err-commit-2.ensures.err;
     }
@@ -99,7 +99,7 @@ returns g c =
     record {
       set = commits g.S.Store c.args.conn.now c.in_ok-tx.tx.conn.now c.in_ok-tx.tx.at c.in_ok-tx.ensures.ok c.in_ok-tx.ensures.survives
           (state g.S.Store c.answer_for.new.tx.conn.now) (second_ran g at) c.commit-2.new.self.0 c.conn-2-1.given.0
-            (search rules) c.answer_for.new.tx.at (second_place g at)
+          (search rules) c.answer_for.new.tx.at (second_place g at)
           (set_receipt_in c.args.number c.args.progress) tt c.commit-2.ensures.survives (some g done) c.in_ok-answer_for.ensures.inside
           c.in_ok-commit-2.ensures.ok (λ db opened may. g.met.S.Store.settled c.commit-2.new.self.0.store db opened may);
     }

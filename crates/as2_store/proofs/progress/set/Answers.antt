@@ -18,7 +18,7 @@ second_ran : (g : Over) (c : After-set_progress g)
     → IsInside (c.in_ok-tx.tx.at + 1) (state g.S.Store c.in_ok-tx.tx.conn.now) (state g.S.Store c.set_progress.new.tx.conn.now)
 second_ran g c = inside_then _ (state g.S.Store c.ready.new.tx.conn.now) (state g.S.Store c.set_progress.new.tx.conn.now) c.ready.ensures.within
     (subst (λ at. IsInside (at + 1) (state g.S.Store c.ready.new.tx.conn.now)
-      (state g.S.Store c.set_progress.new.tx.conn.now)) c.ready.ensures.place c.set_progress.ensures.within)
+    (state g.S.Store c.set_progress.new.tx.conn.now)) c.ready.ensures.place c.set_progress.ensures.within)
 
 -- in the same savepoint
 second_place : (g : Over) (c : After-set_progress g) → c.set_progress.new.tx.at ≡ c.in_ok-tx.tx.at
@@ -30,7 +30,7 @@ third_ran : (g : Over) (c : After-wait_for g)
 third_ran g c = inside_then _ (state g.S.Store c.set_progress.new.tx.conn.now) (state g.S.Store c.wait_for.new.tx.conn.now)
     (second_ran g (goal.at.After-wait_for g c).After-set_progress)
     (subst (λ at. IsInside (at + 1) (state g.S.Store c.set_progress.new.tx.conn.now) (state g.S.Store c.wait_for.new.tx.conn.now))
-      (second_place g (goal.at.After-wait_for g c).After-set_progress) c.wait_for.ensures.within)
+    (second_place g (goal.at.After-wait_for g c).After-set_progress) c.wait_for.ensures.within)
 
 -- in the same savepoint
 third_place : (g : Over) (c : After-wait_for g) → c.wait_for.new.tx.at ≡ c.in_ok-tx.tx.at
@@ -40,7 +40,7 @@ further : (g : Over) (c : After-commit g) → HasCleanDisk (state g.S.Store c.wa
     → Follows (state g.S.Store c.in_ok-tx.tx.conn.now) (state g.S.Store c.wait_for.new.tx.conn.now) (set_out_in c.args.number c.args.progress)
 further g c =
     comes_further (state g.S.Store c.in_ok-tx.tx.conn.now) (state g.S.Store c.ready.new.tx.conn.now)
-      (state g.S.Store c.set_progress.new.tx.conn.now) (state g.S.Store c.wait_for.new.tx.conn.now)
+    (state g.S.Store c.set_progress.new.tx.conn.now) (state g.S.Store c.wait_for.new.tx.conn.now)
     c.args.number c.asked-wanted.result c.args.progress c.asked-wanted.ensures.beyond c.asked-wanted.ensures.within _ c.if-branch-eq0.false
     c.wait_for.ensures.within.clean c.set_progress.ensures.within.clean c.ready.ensures.within.kept c.in_ok-set_progress.ensures.open
     c.in_ok-ready.ensures.readied c.in_ok-set_progress.ensures.put c.in_ok-wait_for.ensures.put
@@ -50,7 +50,7 @@ returns-in_err-ready g c =
     record {
       set = drops g.S.Store c.args.conn.now c.in_ok-tx.tx.conn.now c.in_ok-tx.tx.at c.in_ok-tx.ensures.ok c.in_ok-tx.ensures.survives
           (state g.S.Store c.ready.new.tx.conn.now) c.ready.ensures.within c.drop-tx.new.self.0 c.conn-in_err-ready-1.given.0
-            (search rules) c.ready.new.tx.at c.ready.ensures.place
+          (search rules) c.ready.new.tx.at c.ready.ensures.place
           (set_out_in c.args.number c.args.progress) c.from_residual-in_err-ready.result c.from_residual-in_err-ready.ensures.0 c.drop-tx.ensures.survives c.drop-tx.ensures.undone;
     }
 
@@ -60,8 +60,8 @@ returns-in_err-set_progress g c =
     record {
       set = drops g.S.Store c.args.conn.now c.in_ok-tx.tx.conn.now c.in_ok-tx.tx.at c.in_ok-tx.ensures.ok c.in_ok-tx.ensures.survives
           (state g.S.Store c.set_progress.new.tx.conn.now)
-            (second_ran g at) c.drop-tx-in_err-set_progress.new.self.0 c.conn-in_err-set_progress-1.given.0 (search rules) c.set_progress.new.tx.at
-            (second_place g at)
+          (second_ran g at) c.drop-tx-in_err-set_progress.new.self.0 c.conn-in_err-set_progress-1.given.0 (search rules) c.set_progress.new.tx.at
+          (second_place g at)
           (set_out_in c.args.number c.args.progress) c.from_residual-in_err-set_progress.result c.from_residual-in_err-set_progress.ensures.0 c.drop-tx-in_err-set_progress.ensures.survives c.drop-tx-in_err-set_progress.ensures.undone;
     }
 
@@ -71,9 +71,9 @@ returns-then-branch-eq0 g c =
     record {
       set = drops g.S.Store c.args.conn.now c.in_ok-tx.tx.conn.now c.in_ok-tx.tx.at c.in_ok-tx.ensures.ok c.in_ok-tx.ensures.survives
           (state g.S.Store c.set_progress.new.tx.conn.now) (second_ran g at) c.drop-tx-then-branch-eq0.new.self.0 c.conn-then-branch-eq0-1.given.0
-            (search rules) c.set_progress.new.tx.at (second_place g at)
+          (search rules) c.set_progress.new.tx.at (second_place g at)
           (set_out_in c.args.number c.args.progress)
-            (Err QueryReturnedNoRows) refl c.drop-tx-then-branch-eq0.ensures.survives c.drop-tx-then-branch-eq0.ensures.undone;
+          (Err QueryReturnedNoRows) refl c.drop-tx-then-branch-eq0.ensures.survives c.drop-tx-then-branch-eq0.ensures.undone;
     }
 
 pub returns-in_err-wait_for : goal.returns-in_err-wait_for
@@ -82,9 +82,9 @@ returns-in_err-wait_for g c =
     record {
       set = drops g.S.Store c.args.conn.now c.in_ok-tx.tx.conn.now c.in_ok-tx.tx.at c.in_ok-tx.ensures.ok c.in_ok-tx.ensures.survives
           (state g.S.Store c.wait_for.new.tx.conn.now) (third_ran g at) c.drop-tx-in_err-wait_for.new.self.0 c.conn-in_err-wait_for-1.given.0
-            (sym (c.conn-in_err-wait_for-1.given.1
-            (sym (c.wait_for.ensures.same_reference ∙ c.set_progress.ensures.same_reference ∙ c.ready.ensures.same_reference
-            ∙ c.in_ok-tx.ensures.same_reference)))) c.wait_for.new.tx.at (third_place g at)
+          (sym (c.conn-in_err-wait_for-1.given.1
+          (sym (c.wait_for.ensures.same_reference ∙ c.set_progress.ensures.same_reference ∙ c.ready.ensures.same_reference
+          ∙ c.in_ok-tx.ensures.same_reference)))) c.wait_for.new.tx.at (third_place g at)
           (set_out_in c.args.number c.args.progress) c.from_residual-in_err-wait_for.result c.from_residual-in_err-wait_for.ensures.0 c.drop-tx-in_err-wait_for.ensures.survives c.drop-tx-in_err-wait_for.ensures.undone;
     }
 
@@ -95,9 +95,9 @@ returns-in_err-commit g c =
     record {
       set = fails_to_commit g.S.Store c.args.conn.now c.in_ok-tx.tx.conn.now c.in_ok-tx.tx.at c.in_ok-tx.ensures.ok c.in_ok-tx.ensures.survives
           (state g.S.Store c.wait_for.new.tx.conn.now) (third_ran g at) c.commit.new.self.0 c.conn-2-1.given.0
-            (sym (c.conn-2-1.given.1
-            (sym (c.wait_for.ensures.same_reference ∙ c.set_progress.ensures.same_reference ∙ c.ready.ensures.same_reference
-            ∙ c.in_ok-tx.ensures.same_reference)))) c.wait_for.new.tx.at (third_place g at)
+          (sym (c.conn-2-1.given.1
+          (sym (c.wait_for.ensures.same_reference ∙ c.set_progress.ensures.same_reference ∙ c.ready.ensures.same_reference
+          ∙ c.in_ok-tx.ensures.same_reference)))) c.wait_for.new.tx.at (third_place g at)
           (set_out_in c.args.number c.args.progress) c.from_residual-in_err-commit.result _ c.from_residual-in_err-commit.ensures.0 c.commit.ensures.survives (further g done)
           c.in_ok-wait_for.ensures.inside c.in_err-commit.ensures.err;
     }
@@ -109,9 +109,9 @@ returns g c =
     record {
       set = commits g.S.Store c.args.conn.now c.in_ok-tx.tx.conn.now c.in_ok-tx.tx.at c.in_ok-tx.ensures.ok c.in_ok-tx.ensures.survives
           (state g.S.Store c.wait_for.new.tx.conn.now) (third_ran g at) c.commit.new.self.0 c.conn-2-1.given.0
-            (sym (c.conn-2-1.given.1
-            (sym (c.wait_for.ensures.same_reference ∙ c.set_progress.ensures.same_reference ∙ c.ready.ensures.same_reference
-            ∙ c.in_ok-tx.ensures.same_reference)))) c.wait_for.new.tx.at (third_place g at)
+          (sym (c.conn-2-1.given.1
+          (sym (c.wait_for.ensures.same_reference ∙ c.set_progress.ensures.same_reference ∙ c.ready.ensures.same_reference
+          ∙ c.in_ok-tx.ensures.same_reference)))) c.wait_for.new.tx.at (third_place g at)
           (set_out_in c.args.number c.args.progress) tt c.commit.ensures.survives (further g done) c.in_ok-wait_for.ensures.inside
           c.in_ok-commit.ensures.ok (λ db opened may. g.met.S.Store.settled c.commit.new.self.0.store db opened may);
     }

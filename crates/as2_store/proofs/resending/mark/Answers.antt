@@ -39,5 +39,5 @@ returns-clause-within g c =
     inside_at old (state g.S.Store c.take_resent.new.tx.conn.now) (state g.S.Store c.put_resent.new.tx.conn.now) c.args.tx.now.at c.take_resent.new.tx.at
     (c.take_resent.ensures.place ∙ c.tried_rows.ensures.place)
     (inside_at old (state g.S.Store c.tried_rows.new.tx.conn.now)
-      (state g.S.Store c.take_resent.new.tx.conn.now) c.args.tx.now.at c.tried_rows.new.tx.at c.tried_rows.ensures.place
+    (state g.S.Store c.take_resent.new.tx.conn.now) c.args.tx.now.at c.tried_rows.new.tx.at c.tried_rows.ensures.place
     c.tried_rows.ensures.within c.take_resent.ensures.within) c.put_resent.ensures.within

@@ -18,7 +18,7 @@ second_ran : (g : Over) (c : After-put_evidence g)
     → IsInside (c.in_ok-tx.tx.at + 1) (state g.S.Store c.in_ok-tx.tx.conn.now) (state g.S.Store c.put_evidence.new.tx.conn.now)
 second_ran g c = inside_then _ (state g.S.Store c.set_settled.new.tx.conn.now) (state g.S.Store c.put_evidence.new.tx.conn.now) c.set_settled.ensures.within
     (subst (λ at. IsInside (at + 1) (state g.S.Store c.set_settled.new.tx.conn.now)
-      (state g.S.Store c.put_evidence.new.tx.conn.now)) c.set_settled.ensures.place c.put_evidence.ensures.within)
+    (state g.S.Store c.put_evidence.new.tx.conn.now)) c.set_settled.ensures.place c.put_evidence.ensures.within)
 
 -- in the same savepoint
 second_place : (g : Over) (c : After-put_evidence g) → c.put_evidence.new.tx.at ≡ c.in_ok-tx.tx.at
@@ -30,7 +30,7 @@ third_ran : (g : Over) (c : After-take_document g)
 third_ran g c = inside_then _ (state g.S.Store c.put_evidence.new.tx.conn.now) (state g.S.Store c.take_document.new.tx.conn.now)
     (second_ran g (goal.at.After-take_document g c).After-put_evidence)
     (subst (λ at. IsInside (at + 1) (state g.S.Store c.put_evidence.new.tx.conn.now) (state g.S.Store c.take_document.new.tx.conn.now))
-      (second_place g (goal.at.After-take_document g c).After-put_evidence) c.take_document.ensures.within)
+    (second_place g (goal.at.After-take_document g c).After-put_evidence) c.take_document.ensures.within)
 
 -- in the same savepoint
 third_place : (g : Over) (c : After-take_document g) → c.take_document.new.tx.at ≡ c.in_ok-tx.tx.at
@@ -38,10 +38,10 @@ third_place g c = c.take_document.ensures.place ∙ second_place g (goal.at.Afte
 
 settled : (g : Over) (c : After-commit g) → HasCleanDisk (state g.S.Store c.take_document.new.tx.conn.now)
     → Follows (state g.S.Store c.in_ok-tx.tx.conn.now) (state g.S.Store c.take_document.new.tx.conn.now)
-      (settled_in c.args.number c.args.detail c.args.evidence.now)
+    (settled_in c.args.number c.args.detail c.args.evidence.now)
 settled g c =
     ends (state g.S.Store c.in_ok-tx.tx.conn.now) (state g.S.Store c.set_settled.new.tx.conn.now) (state g.S.Store c.put_evidence.new.tx.conn.now)
-      (state g.S.Store c.take_document.new.tx.conn.now)
+    (state g.S.Store c.take_document.new.tx.conn.now)
     c.args.number c.asked-wanted.result c.args.detail c.args.evidence.now c.requires.by_receipt
     c.asked-wanted.ensures.beyond c.asked-wanted.ensures.within _ c.if-branch-eq0.false c.put_evidence.ensures.within.clean
     c.take_document.ensures.within.clean c.in_ok-set_settled.ensures.open c.in_ok-set_settled.ensures.put c.in_ok-put_evidence.ensures.put
@@ -52,7 +52,7 @@ returns-in_err-set_settled g c =
     record {
       settled = drops g.S.Store c.args.conn.now c.in_ok-tx.tx.conn.now c.in_ok-tx.tx.at c.in_ok-tx.ensures.ok c.in_ok-tx.ensures.survives
           (state g.S.Store c.set_settled.new.tx.conn.now) c.set_settled.ensures.within c.drop-tx.new.self.0 c.conn-in_err-set_settled-1.given.0
-            (search rules) c.set_settled.new.tx.at c.set_settled.ensures.place
+          (search rules) c.set_settled.new.tx.at c.set_settled.ensures.place
           (settled_in c.args.number c.args.detail c.args.evidence.now) c.from_residual-in_err-set_settled.result c.from_residual-in_err-set_settled.ensures.0 c.drop-tx.ensures.survives c.drop-tx.ensures.undone;
     }
 
@@ -62,7 +62,7 @@ returns-then-branch-eq0 g c =
       settled = drops g.S.Store c.args.conn.now c.in_ok-tx.tx.conn.now c.in_ok-tx.tx.at c.in_ok-tx.ensures.ok c.in_ok-tx.ensures.survives
           (state g.S.Store c.set_settled.new.tx.conn.now) c.set_settled.ensures.within c.drop-tx-then-branch-eq0.new.self.0 c.conn-then-branch-eq0-1.given.0 (search rules) c.set_settled.new.tx.at c.set_settled.ensures.place
           (settled_in c.args.number c.args.detail c.args.evidence.now)
-            (Err QueryReturnedNoRows) refl c.drop-tx-then-branch-eq0.ensures.survives c.drop-tx-then-branch-eq0.ensures.undone;
+          (Err QueryReturnedNoRows) refl c.drop-tx-then-branch-eq0.ensures.survives c.drop-tx-then-branch-eq0.ensures.undone;
     }
 
 pub returns-in_err-put_evidence : goal.returns-in_err-put_evidence
@@ -71,8 +71,8 @@ returns-in_err-put_evidence g c =
     record {
       settled = drops g.S.Store c.args.conn.now c.in_ok-tx.tx.conn.now c.in_ok-tx.tx.at c.in_ok-tx.ensures.ok c.in_ok-tx.ensures.survives
           (state g.S.Store c.put_evidence.new.tx.conn.now)
-            (second_ran g at) c.drop-tx-in_err-put_evidence.new.self.0 c.conn-in_err-put_evidence-1.given.0 (search rules) c.put_evidence.new.tx.at
-            (second_place g at)
+          (second_ran g at) c.drop-tx-in_err-put_evidence.new.self.0 c.conn-in_err-put_evidence-1.given.0 (search rules) c.put_evidence.new.tx.at
+          (second_place g at)
           (settled_in c.args.number c.args.detail c.args.evidence.now) c.from_residual-in_err-put_evidence.result c.from_residual-in_err-put_evidence.ensures.0 c.drop-tx-in_err-put_evidence.ensures.survives c.drop-tx-in_err-put_evidence.ensures.undone;
     }
 
@@ -82,10 +82,10 @@ returns-in_err-take_document g c =
     record {
       settled = drops g.S.Store c.args.conn.now c.in_ok-tx.tx.conn.now c.in_ok-tx.tx.at c.in_ok-tx.ensures.ok c.in_ok-tx.ensures.survives
           (state g.S.Store c.take_document.new.tx.conn.now)
-            (third_ran g at) c.drop-tx-in_err-take_document.new.self.0 c.conn-in_err-take_document-1.given.0
-            (sym (c.conn-in_err-take_document-1.given.1
-            (sym (c.take_document.ensures.same_reference ∙ c.put_evidence.ensures.same_reference ∙ c.set_settled.ensures.same_reference
-            ∙ c.in_ok-tx.ensures.same_reference)))) c.take_document.new.tx.at (third_place g at)
+          (third_ran g at) c.drop-tx-in_err-take_document.new.self.0 c.conn-in_err-take_document-1.given.0
+          (sym (c.conn-in_err-take_document-1.given.1
+          (sym (c.take_document.ensures.same_reference ∙ c.put_evidence.ensures.same_reference ∙ c.set_settled.ensures.same_reference
+          ∙ c.in_ok-tx.ensures.same_reference)))) c.take_document.new.tx.at (third_place g at)
           (settled_in c.args.number c.args.detail c.args.evidence.now) c.from_residual-in_err-take_document.result c.from_residual-in_err-take_document.ensures.0 c.drop-tx-in_err-take_document.ensures.survives c.drop-tx-in_err-take_document.ensures.undone;
     }
 
@@ -96,9 +96,9 @@ returns-in_err-commit g c =
     record {
       settled = fails_to_commit g.S.Store c.args.conn.now c.in_ok-tx.tx.conn.now c.in_ok-tx.tx.at c.in_ok-tx.ensures.ok c.in_ok-tx.ensures.survives
           (state g.S.Store c.take_document.new.tx.conn.now) (third_ran g at) c.commit.new.self.0 c.conn-2-1.given.0
-            (sym (c.conn-2-1.given.1
-            (sym (c.take_document.ensures.same_reference ∙ c.put_evidence.ensures.same_reference ∙ c.set_settled.ensures.same_reference
-            ∙ c.in_ok-tx.ensures.same_reference)))) c.take_document.new.tx.at (third_place g at)
+          (sym (c.conn-2-1.given.1
+          (sym (c.take_document.ensures.same_reference ∙ c.put_evidence.ensures.same_reference ∙ c.set_settled.ensures.same_reference
+          ∙ c.in_ok-tx.ensures.same_reference)))) c.take_document.new.tx.at (third_place g at)
           (settled_in c.args.number c.args.detail c.args.evidence.now) c.from_residual-in_err-commit.result _ c.from_residual-in_err-commit.ensures.0 c.commit.ensures.survives (settled g done)
           c.in_ok-take_document.ensures.inside c.in_err-commit.ensures.err;
     }
@@ -110,9 +110,9 @@ returns g c =
     record {
       settled = commits g.S.Store c.args.conn.now c.in_ok-tx.tx.conn.now c.in_ok-tx.tx.at c.in_ok-tx.ensures.ok c.in_ok-tx.ensures.survives
           (state g.S.Store c.take_document.new.tx.conn.now) (third_ran g at) c.commit.new.self.0 c.conn-2-1.given.0
-            (sym (c.conn-2-1.given.1
-            (sym (c.take_document.ensures.same_reference ∙ c.put_evidence.ensures.same_reference ∙ c.set_settled.ensures.same_reference
-            ∙ c.in_ok-tx.ensures.same_reference)))) c.take_document.new.tx.at (third_place g at)
+          (sym (c.conn-2-1.given.1
+          (sym (c.take_document.ensures.same_reference ∙ c.put_evidence.ensures.same_reference ∙ c.set_settled.ensures.same_reference
+          ∙ c.in_ok-tx.ensures.same_reference)))) c.take_document.new.tx.at (third_place g at)
           (settled_in c.args.number c.args.detail c.args.evidence.now) tt c.commit.ensures.survives (settled g done) c.in_ok-take_document.ensures.inside
           c.in_ok-commit.ensures.ok (λ db opened may. g.met.S.Store.settled c.commit.new.self.0.store db opened may);
     }

@@ -19,7 +19,7 @@ second_ran : (g : Over) (c : After-raise_next_document g)
 second_ran g c = inside_then _ (state g.S.Store c.put_submitted.new.tx.conn.now)
     (state g.S.Store c.raise_next_document.new.tx.conn.now) c.put_submitted.ensures.within
     (subst (λ at. IsInside (at + 1) (state g.S.Store c.put_submitted.new.tx.conn.now)
-      (state g.S.Store c.raise_next_document.new.tx.conn.now)) c.put_submitted.ensures.place c.raise_next_document.ensures.within)
+    (state g.S.Store c.raise_next_document.new.tx.conn.now)) c.put_submitted.ensures.place c.raise_next_document.ensures.within)
 
 -- in the same savepoint
 second_place : (g : Over) (c : After-raise_next_document g) → c.raise_next_document.new.tx.at ≡ c.in_ok-tx.tx.at
@@ -29,7 +29,7 @@ added : (g : Over) (c : After-commit g) → HasCleanDisk (state g.S.Store c.rais
     → Follows (state g.S.Store c.in_ok-tx.tx.conn.now) (state g.S.Store c.raise_next_document.new.tx.conn.now) (added_document c.args.entry.now)
 added g c =
     adds_document (state g.S.Store c.in_ok-tx.tx.conn.now) (state g.S.Store c.put_submitted.new.tx.conn.now)
-      (state g.S.Store c.raise_next_document.new.tx.conn.now)
+    (state g.S.Store c.raise_next_document.new.tx.conn.now)
     c.args.entry.now c.requires.number c.raise_next_document.ensures.within.clean c.in_ok-put_submitted.ensures.open c.in_ok-put_submitted.ensures.put
     (λ clean way n m has. c.in_ok-raise_next_document.ensures.put clean way n m has c.if-branch-eq0.false)
 
@@ -47,8 +47,8 @@ returns-in_err-raise_next_document g c =
     record {
       added = drops g.S.Store c.args.conn.now c.in_ok-tx.tx.conn.now c.in_ok-tx.tx.at c.in_ok-tx.ensures.ok c.in_ok-tx.ensures.survives
           (state g.S.Store c.raise_next_document.new.tx.conn.now)
-            (second_ran g at) c.drop-tx-in_err-raise_next_document.new.self.0 c.conn-in_err-raise_next_document-1.given.0
-            (search rules) c.raise_next_document.new.tx.at (second_place g at)
+          (second_ran g at) c.drop-tx-in_err-raise_next_document.new.self.0 c.conn-in_err-raise_next_document-1.given.0
+          (search rules) c.raise_next_document.new.tx.at (second_place g at)
           (added_document c.args.entry.now) c.from_residual-in_err-raise_next_document.result c.from_residual-in_err-raise_next_document.ensures.0 c.drop-tx-in_err-raise_next_document.ensures.survives c.drop-tx-in_err-raise_next_document.ensures.undone;
     }
 
@@ -58,8 +58,8 @@ returns-then-branch-eq0 g c =
     record {
       added = drops g.S.Store c.args.conn.now c.in_ok-tx.tx.conn.now c.in_ok-tx.tx.at c.in_ok-tx.ensures.ok c.in_ok-tx.ensures.survives
           (state g.S.Store c.raise_next_document.new.tx.conn.now)
-            (second_ran g at) c.drop-tx-then-branch-eq0.new.self.0 c.conn-then-branch-eq0-1.given.0 (search rules) c.raise_next_document.new.tx.at
-            (second_place g at)
+          (second_ran g at) c.drop-tx-then-branch-eq0.new.self.0 c.conn-then-branch-eq0-1.given.0 (search rules) c.raise_next_document.new.tx.at
+          (second_place g at)
           (added_document c.args.entry.now) (Err QueryReturnedNoRows) refl c.drop-tx-then-branch-eq0.ensures.survives c.drop-tx-then-branch-eq0.ensures.undone;
     }
 
@@ -70,7 +70,7 @@ returns-in_err-commit g c =
     record {
       added = fails_to_commit g.S.Store c.args.conn.now c.in_ok-tx.tx.conn.now c.in_ok-tx.tx.at c.in_ok-tx.ensures.ok c.in_ok-tx.ensures.survives
           (state g.S.Store c.raise_next_document.new.tx.conn.now) (second_ran g at) c.commit.new.self.0 c.conn-2-1.given.0
-            (search rules) c.raise_next_document.new.tx.at (second_place g at)
+          (search rules) c.raise_next_document.new.tx.at (second_place g at)
           (added_document c.args.entry.now) c.from_residual-in_err-commit.result _ c.from_residual-in_err-commit.ensures.0 c.commit.ensures.survives (added g done)
           c.in_ok-raise_next_document.ensures.inside c.in_err-commit.ensures.err;
     }
@@ -82,7 +82,7 @@ returns g c =
     record {
       added = commits g.S.Store c.args.conn.now c.in_ok-tx.tx.conn.now c.in_ok-tx.tx.at c.in_ok-tx.ensures.ok c.in_ok-tx.ensures.survives
           (state g.S.Store c.raise_next_document.new.tx.conn.now) (second_ran g at) c.commit.new.self.0 c.conn-2-1.given.0
-            (search rules) c.raise_next_document.new.tx.at (second_place g at)
+          (search rules) c.raise_next_document.new.tx.at (second_place g at)
           (added_document c.args.entry.now) tt c.commit.ensures.survives (added g done) c.in_ok-raise_next_document.ensures.inside
           c.in_ok-commit.ensures.ok (λ db opened may. g.met.S.Store.settled c.commit.new.self.0.store db opened may);
     }

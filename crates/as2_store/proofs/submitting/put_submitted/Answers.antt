@@ -21,5 +21,5 @@ returns-clause-within g c =
     inside_at old (state g.S.Store c.put_pieces.new.tx.conn.now) (state g.S.Store c.put_out_waiting.new.tx.conn.now) c.args.tx.now.at c.put_pieces.new.tx.at
     (c.put_pieces.ensures.place ∙ c.put_out.ensures.place)
     (inside_at old (state g.S.Store c.put_out.new.tx.conn.now)
-      (state g.S.Store c.put_pieces.new.tx.conn.now) c.args.tx.now.at c.put_out.new.tx.at c.put_out.ensures.place
+    (state g.S.Store c.put_pieces.new.tx.conn.now) c.args.tx.now.at c.put_out.new.tx.at c.put_out.ensures.place
     c.put_out.ensures.within c.put_pieces.ensures.within) c.put_out_waiting.ensures.within

@@ -30,18 +30,18 @@ pub returns-in_err-take_waiting-3-clause-within : goal.returns-in_err-take_waiti
 returns-in_err-take_waiting-3-clause-within g c =
     let old = state g.S.Store c.args.tx.now.conn.now in
     inside_at old (state g.S.Store c.take_waiting-2.new.tx.conn.now)
-      (state g.S.Store c.take_waiting-3.new.tx.conn.now) c.args.tx.now.at c.take_waiting-2.new.tx.at
+    (state g.S.Store c.take_waiting-3.new.tx.conn.now) c.args.tx.now.at c.take_waiting-2.new.tx.at
     (c.take_waiting-2.ensures.place ∙ c.take_waiting.ensures.place)
     (inside_at old (state g.S.Store c.take_waiting.new.tx.conn.now)
-      (state g.S.Store c.take_waiting-2.new.tx.conn.now) c.args.tx.now.at c.take_waiting.new.tx.at c.take_waiting.ensures.place
+    (state g.S.Store c.take_waiting-2.new.tx.conn.now) c.args.tx.now.at c.take_waiting.new.tx.at c.take_waiting.ensures.place
     c.take_waiting.ensures.within c.take_waiting-2.ensures.within) c.take_waiting-3.ensures.within
 
 pub returns-clause-within : goal.returns-clause-within
 returns-clause-within g c =
     let old = state g.S.Store c.args.tx.now.conn.now in
     inside_at old (state g.S.Store c.take_waiting-2.new.tx.conn.now)
-      (state g.S.Store c.take_waiting-3.new.tx.conn.now) c.args.tx.now.at c.take_waiting-2.new.tx.at
+    (state g.S.Store c.take_waiting-3.new.tx.conn.now) c.args.tx.now.at c.take_waiting-2.new.tx.at
     (c.take_waiting-2.ensures.place ∙ c.take_waiting.ensures.place)
     (inside_at old (state g.S.Store c.take_waiting.new.tx.conn.now)
-      (state g.S.Store c.take_waiting-2.new.tx.conn.now) c.args.tx.now.at c.take_waiting.new.tx.at c.take_waiting.ensures.place
+    (state g.S.Store c.take_waiting-2.new.tx.conn.now) c.args.tx.now.at c.take_waiting.new.tx.at c.take_waiting.ensures.place
     c.take_waiting.ensures.within c.take_waiting-2.ensures.within) c.take_waiting-3.ensures.within

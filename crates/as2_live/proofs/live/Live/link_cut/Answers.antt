@@ -10,5 +10,5 @@ returns-clause-lives g c =
     let old = c.args.self.now in
     let new = record old { links = c.cut.new.self } in
     subst (λ (is : Bool). LivesBy g.K.Records.shows old (at_a_link is (Cuts c.args.at)) new) c.cut.ensures.awaits
-          (link_cut g.K.Records.shows old c.cut.new.self
-          (as_many old.links c.cut.new.self c.args.at c.cut.ensures.only) c.args.at c.cut.result c.cut.ensures.stands)
+    (link_cut g.K.Records.shows old c.cut.new.self
+    (as_many old.links c.cut.new.self c.args.at c.cut.ensures.only) c.args.at c.cut.result c.cut.ensures.stands)

@@ -10,5 +10,5 @@ returns-clause-lives g c =
     let old = c.args.self.now in
     let new = record old { links = c.hear.new.self } in
     subst (λ (is : Bool). LivesBy g.K.Records.shows old (at_a_link is (Hears c.args.at c.args.piece.now)) new) c.hear.ensures.awaits
-          (link_heard g.K.Records.shows old c.hear.new.self
-          (as_many old.links c.hear.new.self c.args.at c.hear.ensures.only) c.args.at c.args.piece.now c.hear.result c.hear.ensures.stands)
+    (link_heard g.K.Records.shows old c.hear.new.self
+    (as_many old.links c.hear.new.self c.args.at c.hear.ensures.only) c.args.at c.args.piece.now c.hear.result c.hear.ensures.stands)

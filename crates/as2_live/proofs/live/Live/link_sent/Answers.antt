@@ -12,5 +12,5 @@ returns-clause-lives g c =
     let new = record old { links = c.sent.new.self } in
     let piece = take c.args.most (unsent_at (slice_get (links_of old.links) c.args.at)) in
     subst (λ (is : Bool). LivesBy g.K.Records.shows old (at_a_link is (Sends c.args.at piece)) new) c.sent.ensures.there
-          (link_sent g.K.Records.shows old c.sent.new.self
-          (as_many old.links c.sent.new.self c.args.at c.sent.ensures.only) c.args.at piece c.sent.result c.sent.ensures.stands)
+    (link_sent g.K.Records.shows old c.sent.new.self
+    (as_many old.links c.sent.new.self c.args.at c.sent.ensures.only) c.args.at piece c.sent.result c.sent.ensures.stands)

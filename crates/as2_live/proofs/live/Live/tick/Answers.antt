@@ -8,11 +8,11 @@ use Rattle.as2_live.proofs.live.Live.tick.Goals as goal
 
 pub returns-clause-ticks : goal.returns-clause-ticks
 returns-clause-ticks g c =
-      let old = c.args.self.now in
-      let new = c.tick.new.self in
-      ticked g.K.Records.shows old (record old { desk = new }) refl (ap (λ (d : StationDesk g.row.K.Denot). d.agreements.now) c.tick.ensures.same)
-      c.tick.ensures.taken.does.clean c.args.moment (said_as Ticked c.tick.result)
-      (took old.desk.agreements.now (Tick c.args.moment) Ticked _ _ c.tick.result c.tick.ensures.taken) refl
+    let old = c.args.self.now in
+    let new = c.tick.new.self in
+    ticked g.K.Records.shows old (record old { desk = new }) refl (ap (λ (d : StationDesk g.row.K.Denot). d.agreements.now) c.tick.ensures.same)
+    c.tick.ensures.taken.does.clean c.args.moment (said_as Ticked c.tick.result)
+    (took old.desk.agreements.now (Tick c.args.moment) Ticked _ _ c.tick.result c.tick.ensures.taken) refl
 
 pub returns-clause-fault : goal.returns-clause-fault
 returns-clause-fault g c = c.tick.ensures.taken.does.fault

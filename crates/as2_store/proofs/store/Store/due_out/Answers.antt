@@ -10,4 +10,4 @@ pub returns-clause-due : goal.returns-clause-due
 returns-clause-due g c =
     read_of _ _ _ _ _ (ap (state g.S.Store) c.self.view_is)
     (reads_less _ _ _ _ _ (λ s number r is. is
-      ∙ ap (λ ks. least (numbers_behind c.args.behind ks)) (due_are_documents c.args.moment s)) c.least_due.ensures.due)
+    ∙ ap (λ ks. least (numbers_behind c.args.behind ks)) (due_are_documents c.args.moment s)) c.least_due.ensures.due)
