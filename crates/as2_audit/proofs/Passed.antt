@@ -76,7 +76,8 @@ module _ (migrated : Bool) (d : OutEntry) (success : d.detail ≡ detail.Process
         receipt = r;
         read = read;
         names = (bytes_eq-Decides (named_by r) (value_of d.id)).0
-            (holds (bytes_eq (named_by r) (value_of d.id)) ReceiptOfAnother (if not (gives migrated r d.content d.detail) then Some DetailDiffers else None) is);
+            (holds (bytes_eq (named_by r) (value_of d.id)) ReceiptOfAnother
+            (if not (gives migrated r d.content d.detail) then Some DetailDiffers else None) is);
         confirms = (confirmed AllDigests r d.content).0 (given_success migrated r d.content given);
       }
 

@@ -11,7 +11,7 @@ use Rattle.as2_hub.specs.Calls.{DeskCall, calls_at}
 use Rattle.as2_hub.specs.Conduct.{Conduct}
 use Rattle.as2_hub.specs.Places.{StandAmid, is_ready_in, places, without_reply}
 use Rattle.as2_hub.specs.Rounds.{AsksPlace, AsksPlaces, MakesCalls, Scene, scene}
-use Rattle.as2_hub.specs.Talks.{AnswersWaiting, AsksDesk, HoldsReply, HoldsRest, awaiting, is_ready, unanswered_of}
+use Rattle.as2_hub.specs.Talks.{AnswersWaiting, AsksDesk, HoldsReply, HoldsRest, before_call, is_ready, unanswered_of}
 use Rattle.as2_hub.specs.declared.beginning.Beginning.{Beginning}
 use Rattle.as2_hub.specs.declared.desk.Reply.{Reply}
 use Rattle.as2_hub.specs.declared.hub.Hub.{Hub}
@@ -189,9 +189,9 @@ module _ {S : Type 0} (D : Conduct S) where
   }
 
   rest_asked : (desk later : S) (t next : Talk) (it : AnswersWaiting D desk later t next) (input : List ℕ) (calls : List DeskCall) → HoldsRest t input calls
-      → HoldsRest (awaiting it.asked next) input calls
+      → HoldsRest (before_call it.asked next) input calls
   rest_asked desk later t next it input calls rest =
-      rest_same t (awaiting it.asked next) input calls (ap (λ (x : Talk). x.parser) it.held) (sym it.waits) (ap (λ (x : Talk). x.is_spent) it.held)
+      rest_same t (before_call it.asked next) input calls (ap (λ (x : Talk). x.parser) it.held) (sym it.waits) (ap (λ (x : Talk). x.is_spent) it.held)
       (ap (λ (x : Talk). x.taken) it.held) (ap (λ (x : Talk). x.behind) it.held) rest
 
   differs_asked : (desk later : S) (t next : Talk) → AnswersWaiting D desk later t next → D.may_lose desk ≡ true

@@ -5,7 +5,7 @@ use Rattle.std.proofs.lemmas.Bool.{cases_lt}
 use Rattle.std.proofs.lemmas.Option.{slice_get_past, slice_get_read}
 use Rattle.as2_hub.specs.Calls.{DeskCall, calls_at, replies_of}
 use Rattle.as2_hub.specs.Happenings.{Happenings, Opens, Comes, Keeps, Loses, Goes, Closes, is_open_after, bytes_from, calls_of, written_to}
-use Rattle.as2_hub.specs.Talks.{HoldsRest, HoldsReply, Pends, awaiting, before_calls, talk_room, unanswered_of}
+use Rattle.as2_hub.specs.Talks.{HoldsRest, HoldsReply, Pends, before_call, before_calls, talk_room, unanswered_of}
 use Rattle.as2_hub.specs.declared.hub.Hub.{Hub}
 use Rattle.as2_hub.specs.Places.{TalkStands, PlaceStands, StandAmid, StandAfter, IsVacantAfter, room_in, room_left}
 use Rattle.as2_hub.specs.declared.talk.Talk.{Talk}
@@ -203,7 +203,7 @@ no_call (e ∷ f ∷ more) t silent it = absurd it
 pub called : (talks : List (Option Talk)) (at : ℕ) (t new : Talk) (e : DeskCall) (h : Happenings) (round : List DeskCall) → at < length talks
     → slice_get talks at ≡ Some (Some t) → e.place ≡ at
     → t.reply ≡ None → HoldsReply e new
-    → ((input : List ℕ) (calls : List DeskCall) → HoldsRest t input calls → HoldsRest (awaiting e.asked new) input calls) → new.output ≡ t.output
+    → ((input : List ℕ) (calls : List DeskCall) → HoldsRest t input calls → HoldsRest (before_call e.asked new) input calls) → new.output ≡ t.output
     → StandAmid talks h round → StandAmid (slice_set talks at (Some new)) h (e ∷ round)
 unfolding StandAmid
 called talks at t new e h round within is place silent holds rest output it =
@@ -225,7 +225,7 @@ called talks at t new e h round within is place silent holds rest output it =
 
 -- the round was kept, for a connection
 pub settled_talk : (c : ℕ) (h : Happenings) (round : List DeskCall) (t new : Talk)
-    → ((e : DeskCall) (input : List ℕ) (calls : List DeskCall) → HoldsReply e t → HoldsRest (awaiting e.asked t) input calls → HoldsRest new input (e ∷ calls)
+    → ((e : DeskCall) (input : List ℕ) (calls : List DeskCall) → HoldsReply e t → HoldsRest (before_call e.asked t) input calls → HoldsRest new input (e ∷ calls)
     × (new.output.items ≡ e.reply))
     → (t.reply ≡ None → new ≡ t) → new.reply ≡ None
     → TalkStands c h round t → TalkStands c (Keeps round ∷ h) [] new
@@ -313,7 +313,7 @@ halfway_all talks h round it c = elim (cases_lt c (length talks)) as (λ x. Plac
 -- .. at a place
 pub settled_place : (c : ℕ) (h : Happenings) (round : List DeskCall) (t new : Talk) (o o' : Option (Option Talk)) → o ≡ Some (Some t)
     → o' ≡ Some (Some new)
-    → ((e : DeskCall) (input : List ℕ) (calls : List DeskCall) → HoldsReply e t → HoldsRest (awaiting e.asked t) input calls → HoldsRest new input (e ∷ calls)
+    → ((e : DeskCall) (input : List ℕ) (calls : List DeskCall) → HoldsReply e t → HoldsRest (before_call e.asked t) input calls → HoldsRest new input (e ∷ calls)
     × (new.output.items ≡ e.reply))
     → (t.reply ≡ None → new ≡ t) → new.reply ≡ None
     → PlaceStands c h round o → PlaceStands c (Keeps round ∷ h) [] o'

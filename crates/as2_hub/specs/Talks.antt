@@ -75,13 +75,13 @@ KeepsBehind old new bytes =
 -- ---- a round
 
 -- as it was before what waits was given to the desk
-abbrev pub awaiting : Beginning → Talk → Talk
-awaiting asked t = record t { waiting = Some asked }
+abbrev pub before_call : Beginning → Talk → Talk
+before_call asked t = record t { waiting = Some asked }
 
 -- .. by these calls of the round: one at most
 abbrev pub before_calls : List DeskCall → Talk → Talk
 before_calls [] t = t
-before_calls (e ∷ more) t = awaiting e.asked t
+before_calls (e ∷ more) t = before_call e.asked t
 
 -- the reply of that call is held, until the round has ended
 pub record HoldsReply (e : DeskCall) (t : Talk) : Type 0 where

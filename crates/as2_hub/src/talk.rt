@@ -3,7 +3,7 @@
 ghost use Rattle.std.specs.Prelude.{◌≡◌, ◌+◌, ◌-◌, ◌^◌, ◌<◌, ◌≤◌, ◌++◌, List, ℕ, false, [], ◌∷◌, length, drop, min, Some, None, is_some, IsSome, IsTrue};
 ghost use Rattle.as2_messages.specs.Parsing.{HasTaken};
 ghost use Rattle.as2_hub.specs.Calls.{DeskCall};
-ghost use Rattle.as2_hub.specs.Talks.{AsksDesk, HoldsReply, HoldsRest, HoldsUnanswered, IsFresh, KeepsBehind, UnansweredBy, awaiting, is_done, is_ready, talk_room, unanswered_of};
+ghost use Rattle.as2_hub.specs.Talks.{AsksDesk, HoldsReply, HoldsRest, HoldsUnanswered, IsFresh, KeepsBehind, UnansweredBy, before_call, is_done, is_ready, talk_room, unanswered_of};
 ghost use Rattle.as2_messages.specs.declared.parser.RequestParser.{RequestParser as TheParser};
 
 use crate::beginning::Beginning;
@@ -192,7 +192,7 @@ impl Talk {
     /// The round has ended: the reply may go, or there is none, and what waits waits on.
     pub fn settle(&mut self, is_kept: bool)
         ensures kept { IsTrue is_kept → (e : DeskCall) (input : List ℕ) (calls : List DeskCall)
-            → HoldsReply e self.old → HoldsRest (awaiting e.asked self.old) input calls
+            → HoldsReply e self.old → HoldsRest (before_call e.asked self.old) input calls
             → HoldsRest self.new input (e ∷ calls) × (self.new.output.items ≡ e.reply) }
         ensures lost { is_kept ≡ false → self.new ≡ record self.old { reply = None } }
         ensures silent { self.old.reply ≡ None → self.new ≡ self.old }

@@ -100,7 +100,8 @@ pub takes_settled : (s : State) (n : ℕ) (detail : Detail) (evidence : Evidence
     → Takes (settled_in n detail evidence) s (record s { outbox = items })
 takes_settled s n detail evidence items open_still by_receipt new counted =
     subst (λ (l : List OutEntry). Takes (settled_in n detail evidence) s (record s { outbox = l })) (sym new) (record {
-      is = open_one (option_map_or is_settled (document s n) true) (is_by_receipt detail) (change_document s n (settled_as detail evidence)) open_still by_receipt;
+      is = open_one (option_map_or is_settled (document s n) true) (is_by_receipt detail) (change_document s n (settled_as detail evidence))
+          open_still by_receipt;
       counted = one_document_counted s n (settled_as detail evidence) (λ d. refl) counted;
       version = refl;
     })

@@ -84,7 +84,8 @@ second_plain Migrated = (refl, refl)
 
 abbrev pub copy_inbox_terms : List Term
 copy_inbox_terms =
-    col 1 0 ∷ lit Null ∷ col 1 2 ∷ col 1 3 ∷ col 1 4 ∷ col 1 5 ∷ col 1 6 ∷ col 1 7 ∷ col 1 8 ∷ col 1 9 ∷ col 1 10 ∷ col 1 11 ∷ col 1 12 ∷ col 1 13 ∷ col 1 14 ∷ col 1 15 ∷ col 1 16 ∷ col 1 17 ∷ []
+    col 1 0 ∷ lit Null ∷ col 1 2 ∷ col 1 3 ∷ col 1 4 ∷ col 1 5 ∷ col 1 6 ∷ col 1 7 ∷ col 1 8 ∷ col 1 9 ∷ col 1 10 ∷ col 1 11 ∷ col 1 12 ∷ col 1 13
+    ∷ col 1 14 ∷ col 1 15 ∷ col 1 16 ∷ col 1 17 ∷ []
 
 pub copy_inbox_is : command_of (understood (store_schema Migrated) copy_inbox_text) ≡ Insert 7
     (Query (copy_of first_inbox_tree [] copy_inbox_terms by_number (map (λ _. Binary) copy_inbox_terms)))

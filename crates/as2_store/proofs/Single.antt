@@ -68,7 +68,8 @@ by_code code all d back a b same = sym (back a) ∙ ap (λ n. get_or all n d) (w
 
 abbrev outcomes : List Outcome
 outcomes =
-    outcome.Processed ∷ outcome.DecryptionFailed ∷ outcome.DecompressionFailed ∷ outcome.AuthenticationFailed ∷ outcome.UnsupportedFormat ∷ outcome.UnsupportedMicAlgorithms ∷ outcome.Processed ∷ []
+    outcome.Processed ∷ outcome.DecryptionFailed ∷ outcome.DecompressionFailed ∷ outcome.AuthenticationFailed ∷ outcome.UnsupportedFormat
+    ∷ outcome.UnsupportedMicAlgorithms ∷ outcome.Processed ∷ []
 
 outcome_injective : (a b : Outcome) → whole (outcome_code a) ≡ whole (outcome_code b) → a ≡ b
 outcome_injective = by_code outcome_code outcomes outcome.Processed back
@@ -106,7 +107,8 @@ attempt_in = by_code attempt_code attempts attempt.Idle back
 
 abbrev details : List Detail
 details =
-    detail.New ∷ detail.New ∷ detail.Sending ∷ detail.Awaiting ∷ detail.Retry ∷ detail.Processed ∷ detail.NoReceiptAsked ∷ detail.Warning ∷ detail.NoMic ∷ detail.UnknownMic ∷ detail.NotProcessed
+    detail.New ∷ detail.New ∷ detail.Sending ∷ detail.Awaiting ∷ detail.Retry ∷ detail.Processed ∷ detail.NoReceiptAsked ∷ detail.Warning
+    ∷ detail.NoMic ∷ detail.UnknownMic ∷ detail.NotProcessed
     ∷ detail.ErrorModifier ∷ detail.MicDiffers ∷ detail.TriesUsed ∷ detail.Overdue ∷ []
 
 detail_in : (a b : Detail) → whole (detail_code a) ≡ whole (detail_code b) → a ≡ b
@@ -441,7 +443,8 @@ one_state layout d s t a b =
     let rows = in_same (in_summary x) (in_summary y) row in
     ap₂ in_entry rows
     (same_content (λ (e : InEntry). e.number)
-    (λ e. e.posted.content) _ s.inbox t.inbox a.entries.inbox_contents b.entries.inbox_contents a.receipts.1.distinct b.receipts.1.distinct x y here there (ap (λ (r : InRow). r.number) rows)))
+    (λ e. e.posted.content) _ s.inbox t.inbox a.entries.inbox_contents b.entries.inbox_contents a.receipts.1.distinct b.receipts.1.distinct x y
+    here there (ap (λ (r : InRow). r.number) rows)))
     s.inbox t.inbox (sym a.entries.inbox ∙ b.entries.inbox)
     (found (λ (e : InEntry). e.number) (λ e. e.posted.content) s.inbox a.receipts.1.distinct)
     (found (λ (e : InEntry). e.number) (λ e. e.posted.content) t.inbox b.receipts.1.distinct) in
@@ -455,7 +458,8 @@ one_state layout d s t a b =
     let rows = out_same (out_summary x) (out_summary y) row in
     let number = ap (λ (r : OutRow). r.number) rows in
     let content = same_content (λ (d : OutEntry). d.number)
-    (λ d. d.content) _ s.outbox t.outbox a.entries.outbox_contents b.entries.outbox_contents a.documents.1.distinct b.documents.1.distinct x y here.0 there.0 number in
+    (λ d. d.content) _ s.outbox t.outbox a.entries.outbox_contents b.entries.outbox_contents a.documents.1.distinct b.documents.1.distinct x y
+    here.0 there.0 number in
     let evidence = same_evidence s.outbox t.outbox
     (sym a.entries.evidence ∙ b.entries.evidence) a.documents.1.distinct b.documents.1.distinct x y here.0 there.0 number in
     let was = same_begun s.outbox t.outbox begun x y here there (ap (λ (r : OutRow). r.tries) rows) number in

@@ -24,7 +24,8 @@ returns-in_err-add-clause-found g c =
 
 pub loop-at-preserved : goal.loop-at-preserved
 loop-at-preserved g c =
-    one_more _ _ (λ s fault. fault ≡ received_at s c.row-item.result.number) _ _ _ _ _ _ c.loop-at.at _ c.row-item.result c.in_ok-fault.fault c.loop-at-test.true
+    one_more _ _ (λ s fault. fault ≡ received_at s c.row-item.result.number) _ _ _ _ _ _ c.loop-at.at _ c.row-item.result c.in_ok-fault.fault
+    c.loop-at-test.true
     (λ s rows is. c.in_ok-add.ensures.found
     ∙ ap (λ (f : Option Fault). c.loop-at.findings.items ++ finding_at Inbox c.row-item.result.number f) is
     ∙ ap (λ (r : InRow). c.loop-at.findings.items ++ finding_at Inbox r.number (received_at s r.number)) c.row-item.is)

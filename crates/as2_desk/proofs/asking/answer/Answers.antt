@@ -79,7 +79,8 @@ returns-in-Fetch-clause-tells g c = λ clean.
 
 pub returns-in-Submit-clause-refused : goal.returns-in-Submit-clause-refused
 returns-in-Submit-clause-refused g c = λ reason is.
-    submission_refused c.args.terms.now.agreements.now c.args.question c.in-Submit.document.organization c.in-Submit.document.partner c.in-Submit.document.content c.args.terms.now.moment _ _ c.submit.result _ c.submit.ensures.refused (c.submitted_told.ensures c.args.question) reason
+    submission_refused c.args.terms.now.agreements.now c.args.question c.in-Submit.document.organization c.in-Submit.document.partner
+    c.in-Submit.document.content c.args.terms.now.moment _ _ c.submit.result _ c.submit.ensures.refused (c.submitted_told.ensures c.args.question) reason
     (subst (λ (q : QuestionInHand). refusal_to c.args.terms.now.agreements.now q ≡ Some reason) c.in-Submit.is is)
 
 pub returns-in-Submit-clause-fault : goal.returns-in-Submit-clause-fault
@@ -117,7 +118,8 @@ pub returns-in-Submit-clause-by_history : goal.returns-in-Submit-clause-by_histo
 returns-in-Submit-clause-by_history g c = λ clean s rests.
     let told = told_as c.submitted_told.result in
     let by = ends_by c.args.terms.now.agreements.now
-    (event.Submit c.in-Submit.document.organization c.in-Submit.document.partner c.in-Submit.document.content c.args.terms.now.moment) said_to_submit (g.K.Records.shows c.args.station.now) (g.K.Records.shows c.submit.new.self) c.submit.result (question.Submit c.in-Submit.document) told
+    (event.Submit c.in-Submit.document.organization c.in-Submit.document.partner c.in-Submit.document.content c.args.terms.now.moment)
+    said_to_submit (g.K.Records.shows c.args.station.now) (g.K.Records.shows c.submit.new.self) c.submit.result (question.Submit c.in-Submit.document) told
     c.submit.ensures.taken (c.submitted_told.ensures (question.Submit c.in-Submit.document)) clean s rests in
     (by.0, by.1, subst (λ (q : QuestionInHand). EndsByEvent c.args.terms.now.agreements.now c.args.terms.now.moment q s by.0 told) (sym c.in-Submit.is) by.2)
 

@@ -16,7 +16,11 @@ pub returns-in_default-clause-serves : goal.returns-in_default-clause-serves
 returns-in_default-clause-serves g c = λ known stood. inl (record {
   left = each_known _ _ known stood (λ s it. it.1);
   unwritten = refl;
-  told = inl (subst (λ (v : GivenServing). g.N.Network.refuses c.args.network.now v.address v.waits c.listen.new.self) c.serving.view_is c.in_default.ensures.none, c.refuse.ensures.told);
+  told = inl (
+    subst (λ (v : GivenServing). g.N.Network.refuses c.args.network.now v.address v.waits c.listen.new.self) c.serving.view_is
+        c.in_default.ensures.none,
+    c.refuse.ensures.told,
+  );
 })
 
 pub returns-in_default-listening_line-clause-serves : goal.returns-in_default-listening_line-clause-serves
@@ -27,7 +31,8 @@ returns-in_default-listening_line-clause-serves g c = λ known stood. inl (recor
     (
       c.in-Ok.listener,
       c.listen.new.self,
-      subst (λ (v : GivenServing). g.N.Network.listens c.args.network.now v.address v.waits c.in-Ok.listener c.listen.new.self) c.serving.view_is c.in-Ok.ensures.listener,
+      subst (λ (v : GivenServing). g.N.Network.listens c.args.network.now v.address v.waits c.in-Ok.listener c.listen.new.self) c.serving.view_is
+          c.in-Ok.ensures.listener,
       c.stop.ensures,
     ),
     c.refuse-in_default-listening_line.ensures.told,
@@ -105,7 +110,8 @@ returns-clause-store g c =
     (c.as_str.ensures.value ∙ c.in-Ok-listening_line.ensures) c.is_said-told.ensures.said in
     let told = ends_behind g.E.Sink old c.is_said-told.new.errors c.serve_connections-served.new.console.errors end
     (listening_line address) c.stop_fault.result c.is_said-told.result c.refuse_behind.result
-    said c.is_said-told.ensures.counted c.serve_connections-served.ensures.streams.1 c.refuse_behind.ensures.status c.refuse_behind.ensures.told c.refuse_behind.ensures.untold in
+    said c.is_said-told.ensures.counted c.serve_connections-served.ensures.streams.1 c.refuse_behind.ensures.status c.refuse_behind.ensures.told
+    c.refuse_behind.ensures.untold in
     fails_behind c.in-Err.stop address _ _
     (subst (λ (f : CommandFault). Ends (refusal_status f) (listening_line address ++ error_line f)
     (written_of g.E.Sink old end) c.refuse_behind.result) c.stop_fault.ensures told)

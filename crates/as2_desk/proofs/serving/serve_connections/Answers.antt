@@ -61,4 +61,5 @@ returns-clause-serves g c =
     let count : c.serving.inside.count ≡ c.args.serving.now.count = ap (λ (v : GivenServing). v.count) c.serving.view_is in
     let below : c.loop-served.served ≤ c.serving.inside.count = c.loop-served.auto.served-end in
     let above : c.serving.inside.count ≤ c.loop-served.served = c.loop-served-test.false in
-    all_served g.L.Listens.ended c.args.serving.now.moment c.args.terms.now.agreements.now g.W.Sink _ _ _ _ c.args.listener.now c.loop-served.listener _ _ (omega (arith, below, above, count)) c.loop-served.invariant.2
+    all_served g.L.Listens.ended c.args.serving.now.moment c.args.terms.now.agreements.now g.W.Sink _ _ _ _ c.args.listener.now
+    c.loop-served.listener _ _ (omega (arith, below, above, count)) c.loop-served.invariant.2

@@ -71,7 +71,8 @@ returns-clause-goes g c =
     (stored_of g.O.OpenStores was stores path)
     c.do_over-left.result.0 c.do_over-left.result.1 c.open_in-records.result Clean (g.O.OpenStores.keeps was path first) opened opens
     c.open_in-records.ensures.found c.do_over-left.ensures.fails c.do_over-left.ensures.does
-    (λ none. not_opened g.O.OpenStores was c.open_in-records.new.stores stores path c.open_in-records.result is c.open_in-records.ensures.fault c.open_in-records.ensures.same (c.close_in-refused.ensures.none none).0)
+    (λ none. not_opened g.O.OpenStores was c.open_in-records.new.stores stores path c.open_in-records.result is c.open_in-records.ensures.fault
+    c.open_in-records.ensures.same (c.close_in-refused.ensures.none none).0)
     (c.close_in-refused.ensures.counted ∙ c.open_in-records.ensures.counted) (λ same. same)
     (λ more. subst (λ (b : Bool). opens ≡ opened + opens_at b) (sym is) more)
     (λ s from. subst (λ (b : Bool). ByPlace b (s ≡ empty (LaterVersion 0) first) (g.O.OpenStores.keeps was path first s × Clean)) is from)

@@ -33,7 +33,9 @@ returns g c =
                   (λ is. ap (λ (st : LentStore g.row.K.Denot). st.records) (c.run-ran.ensures.memory c.args.host.now.outside.files.agreements_path.now task
                   (subst (λ (b : List ℕ). Gives (texts c.args.given.words.now) c.args.given.clock c.args.host.now.outside.files.agreements_path.now b task)
                   ((bytes_eq-Decides store (codes ":memory:")).0 is) gives)))
-                  (λ first it. it) (λ (same : c.run-ran.new.host.stores ≡ c.args.host.now.stores). ap (λ (st : LentStore g.row.K.Denot). st.records) same) (λ (kept : (number : ℕ) (t : State) → LentKeeps shows old t → LentKeeps shows new t). kept 0 s) (λ t left. left)
+                  (λ first it. it) (λ (same : c.run-ran.new.host.stores ≡ c.args.host.now.stores). ap
+                  (λ (st : LentStore g.row.K.Denot). st.records) same)
+                  (λ (kept : (number : ℕ) (t : State) → LentKeeps shows old t → LentKeeps shows new t). kept 0 s) (λ t left. left)
                   (read_one _ A runs.opened
                   (subst (λ (bytes : List ℕ). agreements_reading bytes ≡ Ok A) (sym (own_bytes c.args.host.now.outside.files)) reading) runs.opens) may
               | inr same ↦ stays A s (LentKeeps shows new) (subst (λ (st : LentStore g.row.K.Denot). LentKeeps shows st.records s) (sym same.0) keeps)

@@ -4,7 +4,8 @@ use Rattle.as2_loop.proofs.operating.go_on.Goals as goal
 
 pub returns-in-Ok-clause-leads : goal.returns-in-Ok-clause-leads
 returns-in-Ok-clause-leads g c text =
-    opened_anew g.O.OpenStores g.O.Opened.Records.shows (string_bytes c.args.held.basis.store) c.serve_open.new.stores c.as_str.result.now c.as_str.ensures.value
+    opened_anew g.O.OpenStores g.O.Opened.Records.shows (string_bytes c.args.held.basis.store) c.serve_open.new.stores c.as_str.result.now
+    c.as_str.ensures.value
     c.args.held.basis.agreed.agreements c.args.run.first c.args.stores.now c.in-Ok.records c.serve_open.result c.in-Ok.ensures.clean c.in-Ok.ensures.found
     (c.serve_open.ensures.leads text)
 

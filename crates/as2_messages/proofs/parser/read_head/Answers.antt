@@ -8,7 +8,8 @@ returns-in-Err-BadHead-clause-refused c = λ text after found. no_head c.args.he
 
 pub returns-in-Ok-framing-clause-found : goal.returns-in-Ok-framing-clause-found
 returns-in-Ok-framing-clause-found c = λ text after found.
-    judged_awaits text c.args.head.now after c.in-Ok.judged _ c.in-Ok-framing.framing found c.in-Ok.ensures.found c.in-Ok-framing.is refl refl refl refl c.new.ensures (c.new-in-Ok-framing.ensures after)
+    judged_awaits text c.args.head.now after c.in-Ok.judged _ c.in-Ok-framing.framing found c.in-Ok.ensures.found c.in-Ok-framing.is refl refl refl
+    refl c.new.ensures (c.new-in-Ok-framing.ensures after)
 
 pub returns-in-Err-clause-refused : goal.returns-in-Err-clause-refused
 returns-in-Err-clause-refused c = λ text after found.

@@ -5,7 +5,8 @@ use Rattle.as2_posts.proofs.sending.document_job.Goals as goal
 
 pub returns-clause-job : goal.returns-clause-job
 returns-clause-job c =
-    c.in_ok-job.ensures.job ∙ same_request c.args.agreements.now c.args.partner.now c.args.entry.now.organization c.args.entry.now.id c.args.entry.now.content c.in-Some.url (sym (rw (c.as_bytes.ensures.value, c.as_str.ensures.text) at c.parse.ensures.exact) ∙ c.in-Some.is)
+    c.in_ok-job.ensures.job ∙ same_request c.args.agreements.now c.args.partner.now c.args.entry.now.organization c.args.entry.now.id
+    c.args.entry.now.content c.in-Some.url (sym (rw (c.as_bytes.ensures.value, c.as_str.ensures.text) at c.parse.ensures.exact) ∙ c.in-Some.is)
 
 pub returns-clause-address : goal.returns-clause-address
 returns-clause-address c =

@@ -33,7 +33,8 @@ rows-preserved c =
     let read = λ (n : ℕ) (content : List ℕ) (all : c.args.rows.now ≡ map piece_shown (pieces n content)).
     read_here c.args.rows.now n content c.rows.row-index c.row-item.result _ all c.rows-test.true (sym c.in_ok-bytes.ensures.shown ∙ c.row-item.is) in
     let some = c.if-is_empty.ensures in
-    let more = joined_more c.args.rows.now c.args.number c.args.size c.rows.content c.in_ok-bytes.bytes.now c.rows.row-index c.row-item.result c.rows.invariant.0 c.rows-test.true
+    let more = joined_more c.args.rows.now c.args.number c.args.size c.rows.content c.in_ok-bytes.bytes.now c.rows.row-index c.row-item.result
+    c.rows.invariant.0 c.rows-test.true
     (sym c.row-item.is ∙ c.in_ok-bytes.ensures.shown
     ∙ ap (λ k. piece_shown (record { number = c.args.number; position = k; bytes = c.in_ok-bytes.bytes.now }))
     (c.count.ensures ∙ count_is c.rows.content c.args.size c.rows.row-index c.rows.invariant.0.long c.rows.invariant.0.needed))

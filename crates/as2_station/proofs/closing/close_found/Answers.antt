@@ -24,7 +24,8 @@ returns-then-is_some g c = record {
       over_open _ _ _ _ _ _ c.requires.open
       (λ clean s stands found. ap Some
       (leaves s d stands found _ _
-      (settled_before c.args.terms.now.agreements.now AllDigests c.args.answer c.args.terms.now.moment d c.in-Ok.partner.now c.in-Ok.ensures.agreed (sym c.if-is_some.ensures))));
+      (settled_before c.args.terms.now.agreements.now AllDigests c.args.answer c.args.terms.now.moment d c.in-Ok.partner.now c.in-Ok.ensures.agreed
+      (sym c.if-is_some.ensures))));
 }
 
 pub returns-then-is_idle : goal.returns-then-is_idle

@@ -8,8 +8,10 @@ pub returns-in_err-documents-clause-outstanding : goal.returns-in_err-documents-
 returns-in_err-documents-clause-outstanding g c =
     read_then _ _ (λ s text. string_bytes text ≡ outstanding_text s c.args.moment) _ _ _ _ c.from_residual-in_err-documents.result
     (λ s text rests known more. more) c.in_ok-counts.ensures.counts
-    (read_bad _ (λ s text. string_bytes text ≡ outstanding_text s c.args.moment) _ _ _ c.from_residual-in_err-documents.result c.from_residual-in_err-documents.ensures.0 c.in_err-documents.ensures.marked)
+    (read_bad _ (λ s text. string_bytes text ≡ outstanding_text s c.args.moment) _ _ _ c.from_residual-in_err-documents.result
+    c.from_residual-in_err-documents.ensures.0 c.in_err-documents.ensures.marked)
 
 pub returns-clause-outstanding : goal.returns-clause-outstanding
 returns-clause-outstanding g c =
-    outstanding_shown _ _ c.in_ok-documents.documents _ _ c.outstanding_text.result refl c.as_slice.ensures.value _ c.args.moment c.in_ok-counts.counts c.outstanding_text.ensures.lines c.in_ok-counts.ensures.counts c.in_ok-documents.ensures.marked
+    outstanding_shown _ _ c.in_ok-documents.documents _ _ c.outstanding_text.result refl c.as_slice.ensures.value _ c.args.moment
+    c.in_ok-counts.counts c.outstanding_text.ensures.lines c.in_ok-counts.ensures.counts c.in_ok-documents.ensures.marked

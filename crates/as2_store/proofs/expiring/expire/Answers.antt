@@ -71,7 +71,8 @@ returns-in_err-used_up-clause-passed g c =
     drops g.S.Store c.args.conn.now c.in_ok-tx.tx.conn.now c.in_ok-tx.tx.at c.in_ok-tx.ensures.ok c.in_ok-tx.ensures.survives
     (state g.S.Store c.pass_due-2.new.tx.conn.now) (second_ran g at) c.drop-tx-in_err-used_up.new.self.0 c.conn-in_err-used_up-1.given.0
     (search rules) c.pass_due-2.new.tx.at (second_place g at)
-    (ticked_in c.args.moment) c.from_residual-in_err-used_up.result c.from_residual-in_err-used_up.ensures.0 c.drop-tx-in_err-used_up.ensures.survives c.drop-tx-in_err-used_up.ensures.undone
+    (ticked_in c.args.moment) c.from_residual-in_err-used_up.result c.from_residual-in_err-used_up.ensures.0
+    c.drop-tx-in_err-used_up.ensures.survives c.drop-tx-in_err-used_up.ensures.undone
 
 pub returns-in_default-clause-passed : goal.returns-in_default-clause-passed
 returns-in_default-clause-passed g c =

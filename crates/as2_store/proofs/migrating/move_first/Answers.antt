@@ -25,7 +25,8 @@ returns-in_err-put_origin-clause-within g c =
     (inside_then old (state g.S.Store c.move_contents.new.tx.conn.now) (state g.S.Store c.empty_first.new.tx.conn.now)
     (inside_then old (state g.S.Store c.copy_inbox.new.tx.conn.now) (state g.S.Store c.move_contents.new.tx.conn.now)
     (inside_then old (state g.S.Store c.make_beside.new.tx.conn.now)
-    (state g.S.Store c.copy_inbox.new.tx.conn.now) c.make_beside.ensures.within c.copy_inbox.ensures.within) c.move_contents.ensures.within) c.empty_first.ensures.within) c.put_origin.ensures.within
+    (state g.S.Store c.copy_inbox.new.tx.conn.now) c.make_beside.ensures.within c.copy_inbox.ensures.within) c.move_contents.ensures.within)
+    c.empty_first.ensures.within) c.put_origin.ensures.within
 
 pub returns-clause-within : goal.returns-clause-within
 returns-clause-within g c =
@@ -34,4 +35,5 @@ returns-clause-within g c =
     (inside_then old (state g.S.Store c.move_contents.new.tx.conn.now) (state g.S.Store c.empty_first.new.tx.conn.now)
     (inside_then old (state g.S.Store c.copy_inbox.new.tx.conn.now) (state g.S.Store c.move_contents.new.tx.conn.now)
     (inside_then old (state g.S.Store c.make_beside.new.tx.conn.now)
-    (state g.S.Store c.copy_inbox.new.tx.conn.now) c.make_beside.ensures.within c.copy_inbox.ensures.within) c.move_contents.ensures.within) c.empty_first.ensures.within) c.put_origin.ensures.within
+    (state g.S.Store c.copy_inbox.new.tx.conn.now) c.make_beside.ensures.within c.copy_inbox.ensures.within) c.move_contents.ensures.within)
+    c.empty_first.ensures.within) c.put_origin.ensures.within

@@ -43,8 +43,10 @@ pub returns-in_err-set_receipt_row : goal.returns-in_err-set_receipt_row
 returns-in_err-set_receipt_row g c =
     record {
       set = drops g.S.Store c.args.conn.now c.in_ok-tx.tx.conn.now c.in_ok-tx.tx.at c.in_ok-tx.ensures.ok c.in_ok-tx.ensures.survives
-          (state g.S.Store c.set_receipt_row.new.tx.conn.now) c.set_receipt_row.ensures.within c.drop-tx.new.self.0 c.conn-in_err-set_receipt_row-1.given.0 (search rules) c.set_receipt_row.new.tx.at c.set_receipt_row.ensures.place
-          (set_receipt_in c.args.number c.args.progress) c.from_residual-in_err-set_receipt_row.result c.from_residual-in_err-set_receipt_row.ensures.0 c.drop-tx.ensures.survives c.drop-tx.ensures.undone;
+          (state g.S.Store c.set_receipt_row.new.tx.conn.now) c.set_receipt_row.ensures.within c.drop-tx.new.self.0
+          c.conn-in_err-set_receipt_row-1.given.0 (search rules) c.set_receipt_row.new.tx.at c.set_receipt_row.ensures.place
+          (set_receipt_in c.args.number c.args.progress) c.from_residual-in_err-set_receipt_row.result
+          c.from_residual-in_err-set_receipt_row.ensures.0 c.drop-tx.ensures.survives c.drop-tx.ensures.undone;
     }
 
 pub returns-in_err-answer_for : goal.returns-in_err-answer_for
@@ -55,7 +57,8 @@ returns-in_err-answer_for g c =
           (state g.S.Store c.answer_for.new.tx.conn.now)
           (second_ran g at) c.drop-tx-in_err-answer_for.new.self.0 c.conn-in_err-answer_for-1.given.0 (search rules) c.answer_for.new.tx.at
           (second_place g at)
-          (set_receipt_in c.args.number c.args.progress) c.from_residual-in_err-answer_for.result c.from_residual-in_err-answer_for.ensures.0 c.drop-tx-in_err-answer_for.ensures.survives c.drop-tx-in_err-answer_for.ensures.undone;
+          (set_receipt_in c.args.number c.args.progress) c.from_residual-in_err-answer_for.result c.from_residual-in_err-answer_for.ensures.0
+          c.drop-tx-in_err-answer_for.ensures.survives c.drop-tx-in_err-answer_for.ensures.undone;
     }
 
 pub returns-in_err-commit : goal.returns-in_err-commit
@@ -65,7 +68,8 @@ returns-in_err-commit g c =
       set = fails_to_commit g.S.Store c.args.conn.now c.in_ok-tx.tx.conn.now c.in_ok-tx.tx.at c.in_ok-tx.ensures.ok c.in_ok-tx.ensures.survives
           (state g.S.Store c.set_receipt_row.new.tx.conn.now) c.set_receipt_row.ensures.within c.commit.new.self.0 c.conn-then-branch-eq0-1.given.0
           (search rules) c.set_receipt_row.new.tx.at c.set_receipt_row.ensures.place
-          (set_receipt_in c.args.number c.args.progress) c.from_residual-in_err-commit.result _ c.from_residual-in_err-commit.ensures.0 c.commit.ensures.survives (none g done)
+          (set_receipt_in c.args.number c.args.progress) c.from_residual-in_err-commit.result _ c.from_residual-in_err-commit.ensures.0
+          c.commit.ensures.survives (none g done)
           c.in_ok-set_receipt_row.ensures.inside c.in_err-commit.ensures.err;
     }
 
@@ -88,7 +92,8 @@ returns-in_err-commit-2 g c =
       set = fails_to_commit g.S.Store c.args.conn.now c.in_ok-tx.tx.conn.now c.in_ok-tx.tx.at c.in_ok-tx.ensures.ok c.in_ok-tx.ensures.survives
           (state g.S.Store c.answer_for.new.tx.conn.now) (second_ran g at) c.commit-2.new.self.0 c.conn-2-1.given.0
           (search rules) c.answer_for.new.tx.at (second_place g at)
-          (set_receipt_in c.args.number c.args.progress) c.from_residual-in_err-commit-2.result _ c.from_residual-in_err-commit-2.ensures.0 c.commit-2.ensures.survives (some g done)
+          (set_receipt_in c.args.number c.args.progress) c.from_residual-in_err-commit-2.result _ c.from_residual-in_err-commit-2.ensures.0
+          c.commit-2.ensures.survives (some g done)
           c.in_ok-answer_for.ensures.inside c.in_err-commit-2.ensures.err;
     }
 

@@ -51,7 +51,8 @@ returns-in_err-ready g c =
       set = drops g.S.Store c.args.conn.now c.in_ok-tx.tx.conn.now c.in_ok-tx.tx.at c.in_ok-tx.ensures.ok c.in_ok-tx.ensures.survives
           (state g.S.Store c.ready.new.tx.conn.now) c.ready.ensures.within c.drop-tx.new.self.0 c.conn-in_err-ready-1.given.0
           (search rules) c.ready.new.tx.at c.ready.ensures.place
-          (set_out_in c.args.number c.args.progress) c.from_residual-in_err-ready.result c.from_residual-in_err-ready.ensures.0 c.drop-tx.ensures.survives c.drop-tx.ensures.undone;
+          (set_out_in c.args.number c.args.progress) c.from_residual-in_err-ready.result c.from_residual-in_err-ready.ensures.0
+          c.drop-tx.ensures.survives c.drop-tx.ensures.undone;
     }
 
 pub returns-in_err-set_progress : goal.returns-in_err-set_progress
@@ -62,7 +63,8 @@ returns-in_err-set_progress g c =
           (state g.S.Store c.set_progress.new.tx.conn.now)
           (second_ran g at) c.drop-tx-in_err-set_progress.new.self.0 c.conn-in_err-set_progress-1.given.0 (search rules) c.set_progress.new.tx.at
           (second_place g at)
-          (set_out_in c.args.number c.args.progress) c.from_residual-in_err-set_progress.result c.from_residual-in_err-set_progress.ensures.0 c.drop-tx-in_err-set_progress.ensures.survives c.drop-tx-in_err-set_progress.ensures.undone;
+          (set_out_in c.args.number c.args.progress) c.from_residual-in_err-set_progress.result c.from_residual-in_err-set_progress.ensures.0
+          c.drop-tx-in_err-set_progress.ensures.survives c.drop-tx-in_err-set_progress.ensures.undone;
     }
 
 pub returns-then-branch-eq0 : goal.returns-then-branch-eq0
@@ -85,7 +87,8 @@ returns-in_err-wait_for g c =
           (sym (c.conn-in_err-wait_for-1.given.1
           (sym (c.wait_for.ensures.same_reference ∙ c.set_progress.ensures.same_reference ∙ c.ready.ensures.same_reference
           ∙ c.in_ok-tx.ensures.same_reference)))) c.wait_for.new.tx.at (third_place g at)
-          (set_out_in c.args.number c.args.progress) c.from_residual-in_err-wait_for.result c.from_residual-in_err-wait_for.ensures.0 c.drop-tx-in_err-wait_for.ensures.survives c.drop-tx-in_err-wait_for.ensures.undone;
+          (set_out_in c.args.number c.args.progress) c.from_residual-in_err-wait_for.result c.from_residual-in_err-wait_for.ensures.0
+          c.drop-tx-in_err-wait_for.ensures.survives c.drop-tx-in_err-wait_for.ensures.undone;
     }
 
 pub returns-in_err-commit : goal.returns-in_err-commit
@@ -98,7 +101,8 @@ returns-in_err-commit g c =
           (sym (c.conn-2-1.given.1
           (sym (c.wait_for.ensures.same_reference ∙ c.set_progress.ensures.same_reference ∙ c.ready.ensures.same_reference
           ∙ c.in_ok-tx.ensures.same_reference)))) c.wait_for.new.tx.at (third_place g at)
-          (set_out_in c.args.number c.args.progress) c.from_residual-in_err-commit.result _ c.from_residual-in_err-commit.ensures.0 c.commit.ensures.survives (further g done)
+          (set_out_in c.args.number c.args.progress) c.from_residual-in_err-commit.result _ c.from_residual-in_err-commit.ensures.0
+          c.commit.ensures.survives (further g done)
           c.in_ok-wait_for.ensures.inside c.in_err-commit.ensures.err;
     }
 

@@ -53,14 +53,16 @@ returns-in_err-set_settled g c =
       settled = drops g.S.Store c.args.conn.now c.in_ok-tx.tx.conn.now c.in_ok-tx.tx.at c.in_ok-tx.ensures.ok c.in_ok-tx.ensures.survives
           (state g.S.Store c.set_settled.new.tx.conn.now) c.set_settled.ensures.within c.drop-tx.new.self.0 c.conn-in_err-set_settled-1.given.0
           (search rules) c.set_settled.new.tx.at c.set_settled.ensures.place
-          (settled_in c.args.number c.args.detail c.args.evidence.now) c.from_residual-in_err-set_settled.result c.from_residual-in_err-set_settled.ensures.0 c.drop-tx.ensures.survives c.drop-tx.ensures.undone;
+          (settled_in c.args.number c.args.detail c.args.evidence.now) c.from_residual-in_err-set_settled.result
+          c.from_residual-in_err-set_settled.ensures.0 c.drop-tx.ensures.survives c.drop-tx.ensures.undone;
     }
 
 pub returns-then-branch-eq0 : goal.returns-then-branch-eq0
 returns-then-branch-eq0 g c =
     record {
       settled = drops g.S.Store c.args.conn.now c.in_ok-tx.tx.conn.now c.in_ok-tx.tx.at c.in_ok-tx.ensures.ok c.in_ok-tx.ensures.survives
-          (state g.S.Store c.set_settled.new.tx.conn.now) c.set_settled.ensures.within c.drop-tx-then-branch-eq0.new.self.0 c.conn-then-branch-eq0-1.given.0 (search rules) c.set_settled.new.tx.at c.set_settled.ensures.place
+          (state g.S.Store c.set_settled.new.tx.conn.now) c.set_settled.ensures.within c.drop-tx-then-branch-eq0.new.self.0
+          c.conn-then-branch-eq0-1.given.0 (search rules) c.set_settled.new.tx.at c.set_settled.ensures.place
           (settled_in c.args.number c.args.detail c.args.evidence.now)
           (Err QueryReturnedNoRows) refl c.drop-tx-then-branch-eq0.ensures.survives c.drop-tx-then-branch-eq0.ensures.undone;
     }
@@ -73,7 +75,8 @@ returns-in_err-put_evidence g c =
           (state g.S.Store c.put_evidence.new.tx.conn.now)
           (second_ran g at) c.drop-tx-in_err-put_evidence.new.self.0 c.conn-in_err-put_evidence-1.given.0 (search rules) c.put_evidence.new.tx.at
           (second_place g at)
-          (settled_in c.args.number c.args.detail c.args.evidence.now) c.from_residual-in_err-put_evidence.result c.from_residual-in_err-put_evidence.ensures.0 c.drop-tx-in_err-put_evidence.ensures.survives c.drop-tx-in_err-put_evidence.ensures.undone;
+          (settled_in c.args.number c.args.detail c.args.evidence.now) c.from_residual-in_err-put_evidence.result
+          c.from_residual-in_err-put_evidence.ensures.0 c.drop-tx-in_err-put_evidence.ensures.survives c.drop-tx-in_err-put_evidence.ensures.undone;
     }
 
 pub returns-in_err-take_document : goal.returns-in_err-take_document
@@ -86,7 +89,8 @@ returns-in_err-take_document g c =
           (sym (c.conn-in_err-take_document-1.given.1
           (sym (c.take_document.ensures.same_reference ∙ c.put_evidence.ensures.same_reference ∙ c.set_settled.ensures.same_reference
           ∙ c.in_ok-tx.ensures.same_reference)))) c.take_document.new.tx.at (third_place g at)
-          (settled_in c.args.number c.args.detail c.args.evidence.now) c.from_residual-in_err-take_document.result c.from_residual-in_err-take_document.ensures.0 c.drop-tx-in_err-take_document.ensures.survives c.drop-tx-in_err-take_document.ensures.undone;
+          (settled_in c.args.number c.args.detail c.args.evidence.now) c.from_residual-in_err-take_document.result
+          c.from_residual-in_err-take_document.ensures.0 c.drop-tx-in_err-take_document.ensures.survives c.drop-tx-in_err-take_document.ensures.undone;
     }
 
 pub returns-in_err-commit : goal.returns-in_err-commit
@@ -99,7 +103,8 @@ returns-in_err-commit g c =
           (sym (c.conn-2-1.given.1
           (sym (c.take_document.ensures.same_reference ∙ c.put_evidence.ensures.same_reference ∙ c.set_settled.ensures.same_reference
           ∙ c.in_ok-tx.ensures.same_reference)))) c.take_document.new.tx.at (third_place g at)
-          (settled_in c.args.number c.args.detail c.args.evidence.now) c.from_residual-in_err-commit.result _ c.from_residual-in_err-commit.ensures.0 c.commit.ensures.survives (settled g done)
+          (settled_in c.args.number c.args.detail c.args.evidence.now) c.from_residual-in_err-commit.result _
+          c.from_residual-in_err-commit.ensures.0 c.commit.ensures.survives (settled g done)
           c.in_ok-take_document.ensures.inside c.in_err-commit.ensures.err;
     }
 

@@ -37,8 +37,10 @@ pub returns-in_err-put_submitted : goal.returns-in_err-put_submitted
 returns-in_err-put_submitted g c =
     record {
       added = drops g.S.Store c.args.conn.now c.in_ok-tx.tx.conn.now c.in_ok-tx.tx.at c.in_ok-tx.ensures.ok c.in_ok-tx.ensures.survives
-          (state g.S.Store c.put_submitted.new.tx.conn.now) c.put_submitted.ensures.within c.drop-tx.new.self.0 c.conn-in_err-put_submitted-1.given.0 (search rules) c.put_submitted.new.tx.at c.put_submitted.ensures.place
-          (added_document c.args.entry.now) c.from_residual-in_err-put_submitted.result c.from_residual-in_err-put_submitted.ensures.0 c.drop-tx.ensures.survives c.drop-tx.ensures.undone;
+          (state g.S.Store c.put_submitted.new.tx.conn.now) c.put_submitted.ensures.within c.drop-tx.new.self.0
+          c.conn-in_err-put_submitted-1.given.0 (search rules) c.put_submitted.new.tx.at c.put_submitted.ensures.place
+          (added_document c.args.entry.now) c.from_residual-in_err-put_submitted.result c.from_residual-in_err-put_submitted.ensures.0
+          c.drop-tx.ensures.survives c.drop-tx.ensures.undone;
     }
 
 pub returns-in_err-raise_next_document : goal.returns-in_err-raise_next_document
@@ -49,7 +51,8 @@ returns-in_err-raise_next_document g c =
           (state g.S.Store c.raise_next_document.new.tx.conn.now)
           (second_ran g at) c.drop-tx-in_err-raise_next_document.new.self.0 c.conn-in_err-raise_next_document-1.given.0
           (search rules) c.raise_next_document.new.tx.at (second_place g at)
-          (added_document c.args.entry.now) c.from_residual-in_err-raise_next_document.result c.from_residual-in_err-raise_next_document.ensures.0 c.drop-tx-in_err-raise_next_document.ensures.survives c.drop-tx-in_err-raise_next_document.ensures.undone;
+          (added_document c.args.entry.now) c.from_residual-in_err-raise_next_document.result c.from_residual-in_err-raise_next_document.ensures.0
+          c.drop-tx-in_err-raise_next_document.ensures.survives c.drop-tx-in_err-raise_next_document.ensures.undone;
     }
 
 pub returns-then-branch-eq0 : goal.returns-then-branch-eq0
@@ -71,7 +74,8 @@ returns-in_err-commit g c =
       added = fails_to_commit g.S.Store c.args.conn.now c.in_ok-tx.tx.conn.now c.in_ok-tx.tx.at c.in_ok-tx.ensures.ok c.in_ok-tx.ensures.survives
           (state g.S.Store c.raise_next_document.new.tx.conn.now) (second_ran g at) c.commit.new.self.0 c.conn-2-1.given.0
           (search rules) c.raise_next_document.new.tx.at (second_place g at)
-          (added_document c.args.entry.now) c.from_residual-in_err-commit.result _ c.from_residual-in_err-commit.ensures.0 c.commit.ensures.survives (added g done)
+          (added_document c.args.entry.now) c.from_residual-in_err-commit.result _ c.from_residual-in_err-commit.ensures.0
+          c.commit.ensures.survives (added g done)
           c.in_ok-raise_next_document.ensures.inside c.in_err-commit.ensures.err;
     }
 

@@ -12,6 +12,7 @@ returns-clause-found g c = λ clean.
     let at = file_name c.args.path.now in (
       found.0,
       λ s kept. found.1 s (subst (λ (name : List ℕ). HoldsState (g.K.KeepFiles.image name) s) (sym (c.name.ensures ∙ c.in_ok-place.ensures))
-          (subst (λ (end : Option (End g.row.K-Disk.Denot)). FilesKeep g.K.Disk.Disk (leaves_by g.R.Records.shows g.K.KeepFiles.left_of g.R.Round.Records.shows g.K.KeepFiles.lost_of)
+          (subst (λ (end : Option (End g.row.K-Disk.Denot)). FilesKeep g.K.Disk.Disk
+          (leaves_by g.R.Records.shows g.K.KeepFiles.left_of g.R.Round.Records.shows g.K.KeepFiles.lost_of)
           (g.K.KeepFiles.image at) end s) c.in-None.is kept)),
     )

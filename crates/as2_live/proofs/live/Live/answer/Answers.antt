@@ -7,7 +7,8 @@ use Rattle.as2_live.proofs.live.Live.answer.Goals as goal
 
 pub returns : goal.returns
 returns g c = record {
-  answers = answered g.K.Records.shows c.args.self.now (record { hub = c.round.new.self; desk = c.round.new.desk; links = c.args.self.now.links }) c.args.moment refl c.args.ready.now
+  answers = answered g.K.Records.shows c.args.self.now (record { hub = c.round.new.self; desk = c.round.new.desk; links = c.args.self.now.links })
+      c.args.moment refl c.args.ready.now
       c.round.result
       (subst (λ (d : StationDesk g.row.K.Denot). SettlesRound (conduct_by g.K.Records.shows) c.args.ready.now (scene d c.args.self.now.hub)
       (scene c.round.new.desk c.round.new.self) c.round.result) c.set_moment.ensures c.round.ensures.settles)

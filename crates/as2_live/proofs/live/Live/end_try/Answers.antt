@@ -11,7 +11,8 @@ use Rattle.as2_live.proofs.live.Live.end_try.Goals as goal
 pub returns-in_default : goal.returns-in_default
 returns-in_default g c = record {
   ends = (
-    unlinked g.K.Records.shows c.args.self.now c.end.new.self (as_many_set c.args.self.now.links c.end.new.self c.args.at None c.end.ensures.empties) (λ h stand.
+    unlinked g.K.Records.shows c.args.self.now c.end.new.self
+        (as_many_set c.args.self.now.links c.end.new.self c.args.at None c.end.ensures.empties) (λ h stand.
         subst (λ (o : Option EndedLink). LinksStand c.end.new.self (ended_at c.args.at o ++ h)) c.in_default.is (c.end.ensures.stands h stand)),
     refl,
     sym c.end.ensures.there ∙ ap is_some c.in_default.is,

@@ -8,5 +8,6 @@ pub returns-clause-lives : goal.returns-clause-lives
 returns-clause-lives g c =
     let output : List ℕ = output_at (slice_get (places c.args.self.now.hub) c.args.at) in
     let within : c.sent.result ≤ length output = subst (λ (n : ℕ). n ≤ length output) (sym c.sent.ensures.count) (min-le_right c.args.most (length output)) in
-    went g.K.Records.shows c.args.self.now (record { hub = c.sent.new.self; desk = c.args.self.now.desk; links = c.args.self.now.links }) refl refl c.args.at c.sent.result output within
+    went g.K.Records.shows c.args.self.now (record { hub = c.sent.new.self; desk = c.args.self.now.desk; links = c.args.self.now.links }) refl refl
+    c.args.at c.sent.result output within
     c.sent.ensures.stands c.sent.ensures.bounded c.sent.ensures.none

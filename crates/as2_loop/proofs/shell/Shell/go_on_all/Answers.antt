@@ -8,7 +8,10 @@ pub loop-at-preserved : goal.loop-at-preserved
 loop-at-preserved g c = on_then g.K.Records.shows c.args.live.now c.loop-at.live c.go_on_at.new.live c.loop-at.invariant c.go_on_at.ensures.lives
 
 pub returns-in_err-go_on_at : goal.returns-in_err-go_on_at
-returns-in_err-go_on_at g c = record { lives = on_then g.K.Records.shows c.args.live.now c.loop-at.live c.go_on_at.new.live c.loop-at.invariant c.go_on_at.ensures.lives }
+returns-in_err-go_on_at g c = record {
+  lives = on_then g.K.Records.shows c.args.live.now c.loop-at.live c.go_on_at.new.live c.loop-at.invariant
+      c.go_on_at.ensures.lives;
+}
 
 pub returns : goal.returns
 returns g c = record { lives = c.loop-at.invariant }

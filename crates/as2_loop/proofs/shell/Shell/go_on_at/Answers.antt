@@ -8,4 +8,7 @@ pub returns-in_default-2 : goal.returns-in_default-2
 returns-in_default-2 g c = record { lives = on_none g.K.Records.shows c.args.live.now }
 
 pub returns-in-Closes : goal.returns-in-Closes
-returns-in-Closes g c = record { lives = on_then g.K.Records.shows c.args.live.now c.write.new.live c.close.new.live c.write.ensures.lives c.close.ensures.lives }
+returns-in-Closes g c = record {
+  lives = on_then g.K.Records.shows c.args.live.now c.write.new.live c.close.new.live c.write.ensures.lives
+      c.close.ensures.lives;
+}

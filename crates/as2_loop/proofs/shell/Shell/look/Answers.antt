@@ -5,7 +5,10 @@ pub returns-then-now-saturating_add : goal.returns-then-now-saturating_add
 returns-then-now-saturating_add g c = record { lives = on_none g.K.Records.shows c.args.live.now }
 
 pub returns-in_err-look_at_all : goal.returns-in_err-look_at_all
-returns-in_err-look_at_all g c = record { lives = on_then g.K.Records.shows c.args.live.now c.give_room.new.live c.look_at_all.new.live c.give_room.ensures.lives c.look_at_all.ensures.lives }
+returns-in_err-look_at_all g c = record {
+  lives = on_then g.K.Records.shows c.args.live.now c.give_room.new.live c.look_at_all.new.live
+      c.give_room.ensures.lives c.look_at_all.ensures.lives;
+}
 
 pub returns : goal.returns
 returns g c = record {

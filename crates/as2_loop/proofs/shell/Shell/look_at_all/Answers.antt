@@ -8,7 +8,10 @@ pub loop-at-preserved : goal.loop-at-preserved
 loop-at-preserved g c = on_then g.K.Records.shows c.args.live.now c.loop-at.live c.look_at.new.live c.loop-at.invariant c.look_at.ensures.lives
 
 pub returns-in_err-look_at : goal.returns-in_err-look_at
-returns-in_err-look_at g c = record { lives = on_then g.K.Records.shows c.args.live.now c.loop-at.live c.look_at.new.live c.loop-at.invariant c.look_at.ensures.lives }
+returns-in_err-look_at g c = record {
+  lives = on_then g.K.Records.shows c.args.live.now c.loop-at.live c.look_at.new.live c.loop-at.invariant
+      c.look_at.ensures.lives;
+}
 
 pub returns : goal.returns
 returns g c = record { lives = c.loop-at.invariant }

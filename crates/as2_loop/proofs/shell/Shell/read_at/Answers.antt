@@ -11,4 +11,7 @@ pub returns-then-ne : goal.returns-then-ne
 returns-then-ne g c = record { lives = on_none g.K.Records.shows c.args.live.now }
 
 pub returns-then-eq : goal.returns-then-eq
-returns-then-eq g c = record { lives = on_then g.K.Records.shows c.args.live.now c.read-went.new.live c.close.new.live c.read-went.ensures.lives c.close.ensures.lives }
+returns-then-eq g c = record {
+  lives = on_then g.K.Records.shows c.args.live.now c.read-went.new.live c.close.new.live c.read-went.ensures.lives
+      c.close.ensures.lives;
+}

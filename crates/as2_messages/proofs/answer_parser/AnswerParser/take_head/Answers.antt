@@ -11,4 +11,5 @@ returns-in-Err-BadHead c = λ text ends.
 pub returns-in_default : goal.returns-in_default
 returns-in_default c = λ text ends.
     none_framed (text ++ c.args.bytes.now)
-    (drop c.args.from c.args.bytes.now) c.deref.result.now c.args.self.now.head.text.items c.in-Ok.judged c.deref.ensures.value ends.found c.in-Ok.ensures.found c.in_default.is
+    (drop c.args.from c.args.bytes.now) c.deref.result.now c.args.self.now.head.text.items c.in-Ok.judged c.deref.ensures.value ends.found
+    c.in-Ok.ensures.found c.in_default.is

@@ -5,7 +5,8 @@ pub loop-init : goal.loop-init
 loop-init g c = on_none g.K.Records.shows c.args.live.now
 
 pub loop-preserved : goal.loop-preserved
-loop-preserved g c = on_then g.K.Records.shows c.args.live.now c.next_due.new.live c.begin_one.new.live (on_then g.K.Records.shows c.args.live.now c.loop.live c.next_due.new.live c.loop.invariant c.next_due.ensures.lives)
+loop-preserved g c = on_then g.K.Records.shows c.args.live.now c.next_due.new.live c.begin_one.new.live
+    (on_then g.K.Records.shows c.args.live.now c.loop.live c.next_due.new.live c.loop.invariant c.next_due.ensures.lives)
     c.begin_one.ensures.lives
 
 pub returns-in_default : goal.returns-in_default

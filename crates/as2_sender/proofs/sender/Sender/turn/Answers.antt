@@ -2,4 +2,7 @@ use Rattle.as2_live.proofs.Going.{on_then}
 use Rattle.as2_sender.proofs.sender.Sender.turn.Goals as goal
 
 pub returns : goal.returns
-returns g c = record { lives = on_then g.K.Records.shows c.args.live.now c.end_all.new.live c.begin_due.new.live c.end_all.ensures.lives c.begin_due.ensures.lives }
+returns g c = record {
+  lives = on_then g.K.Records.shows c.args.live.now c.end_all.new.live c.begin_due.new.live c.end_all.ensures.lives
+      c.begin_due.ensures.lives;
+}

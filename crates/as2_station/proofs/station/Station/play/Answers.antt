@@ -12,7 +12,8 @@ events-preserved g c =
     let longer = ap length pushed ∙ length-append c.events.said.items (c.step.result ∷ []) in
     let shorter = ap length next in
     let more = ap (λ l. c.events.yielded ++ l) next ∙ sym (append_assoc c.events.yielded (c.in-Some.event ∷ []) c.next.new.self.rest.items) in
-    let taken = taken_more g.R.Records.shows c.args.agreements.now c.events.yielded c.events.said.items c.in-Some.event c.step.result c.args.self.now c.events.self c.step.new.self was.4 c.step.ensures.taken c.step.ensures.of_head c.step.ensures.submitted in (
+    let taken = taken_more g.R.Records.shows c.args.agreements.now c.events.yielded c.events.said.items c.in-Some.event c.step.result
+    c.args.self.now c.events.self c.step.new.self was.4 c.step.ensures.taken c.step.ensures.of_head c.step.ensures.submitted in (
       was.0,
       was.1 ∙ more,
       longer ∙ ap (λ n. n + 1) was.2 ∙ sym (length-append c.events.yielded (c.in-Some.event ∷ [])),

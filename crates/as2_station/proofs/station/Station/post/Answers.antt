@@ -14,7 +14,8 @@ returns-in-Ok-clause-taken g c =
     takes_event c.args.agreements.now (Post c.args.head.now c.args.body c.args.moment) Http _ _ c.take.result
     (by_state (λ (known : Digests) s. post c.args.agreements.now s c.args.moment
     (post_reading c.args.agreements.now known c.args.head.now c.args.body)) always _ Http _ _ c.take.result
-    (subst (λ (r : PostReading). TakesPost g.R.Records.shows c.args.agreements.now c.args.moment r always c.args.self.now c.take.new.self c.take.result) (sym (c.in-Ok.ensures.opened AllDigests c.args.body)) c.take.ensures.taken))
+    (subst (λ (r : PostReading). TakesPost g.R.Records.shows c.args.agreements.now c.args.moment r always c.args.self.now c.take.new.self
+    c.take.result) (sym (c.in-Ok.ensures.opened AllDigests c.args.body)) c.take.ensures.taken))
     (g.met.R.Records.rests_last c.take.new.self)
     (λ head body moment is.
     subst (λ (r : PostReading). ClashesWhole Http r (g.R.Records.shows c.args.self.now) (g.R.Records.shows c.take.new.self) c.take.result)
