@@ -67,7 +67,7 @@ fn add(
 }
 
 /// Appends what is found of all received documents, in order of number; how many there are. Behind each it tells `watch` how far it has
-/// come. Answers Memory, Disk or Refused; a part may be appended then.
+/// come. Answers Memory, Disk, Refused or Damaged; a part may be appended then.
 pub fn add_received_findings<R: Records, W: Watch>(
     records: &mut R,
     alloc: Global,
@@ -89,7 +89,7 @@ pub fn add_received_findings<R: Records, W: Watch>(
 }
 
 /// Appends what is found of all documents that are sent, in order of number; how many there are. Behind each it tells `watch` how far it
-/// has come. Answers Memory, Disk or Refused; a part may be appended then.
+/// has come. Answers Memory, Disk, Refused or Damaged; a part may be appended then.
 pub fn add_sent_findings<R: Records, W: Watch>(
     records: &mut R,
     alloc: Global,

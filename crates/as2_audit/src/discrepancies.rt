@@ -39,7 +39,7 @@ fn add(findings: &mut Vec<Finding>, discrepancy: Option<Discrepancy>) -> Result<
 }
 
 /// Appends the finding of the first discrepancy between the entries of the records and what is kept beside them, where there is one. Records
-/// that stand for a state have none. Answers Memory, Disk or Refused.
+/// that stand for a state have none. Answers Memory, Disk, Refused or Damaged.
 pub fn add_discrepancy<R: Records>(
     records: &mut R,
     alloc: Global,

@@ -73,7 +73,7 @@ fn lines(alloc: Global, findings: &[Finding], received: u64, sent: u64) -> Resul
 }
 
 /// Looks through all entries of the records, those that were received first, each in order of number. Of each it tells what is wrong
-/// by its own words. Behind them it tells the first that doesn't agree with what is kept beside it. Answers Memory, Disk or Refused.
+/// by its own words. Behind them it tells the first that doesn't agree with what is kept beside it. Answers Memory, Disk, Refused or Damaged.
 pub fn verify<R: Records, W: Watch>(
     records: &mut R,
     alloc: Global,

@@ -158,7 +158,7 @@ option_values words = matches_of command_line words
 abbrev pub command_in : List Text → Option (Text × List Row)
 command_in words = subcommand_of command_line words
 
--- help or the version, and no fault
+-- what words get that ask for help or the version
 abbrev pub IsHelp : ErrorKind → Type 0
 IsHelp kind = (kind ≡ DisplayHelp) ⊎ (kind ≡ DisplayVersion)
 

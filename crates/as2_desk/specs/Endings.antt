@@ -16,7 +16,7 @@ pub record Ends (status : ℕ) (text : List ℕ) (errors : WriterSeen) (ran : Ra
 abbrev pub EndsRefused : CommandFault → WriterSeen → Ran → Type 0
 EndsRefused refusal errors ran = Ends (refusal_status refusal) (error_line refusal) errors ran
 
--- no store could be opened, for a fault that it has (Has), and that is told
+-- a store couldn't be opened or migrated, for a fault that it has (Has), and that is told
 pub record Fails (Has : OpenFault → Type 0) (errors : WriterSeen) (ran : Ran) : Type 0 where
   pub fault : OpenFault
   pub cause : Has fault

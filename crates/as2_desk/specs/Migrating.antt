@@ -22,8 +22,8 @@ entries_hint when (Some counted) =
 abbrev pub counts_hint : Migration → List ℕ
 counts_hint it = entries_hint (codes "before") it.before ++ entries_hint (codes "after") it.after
 
--- The store of the path was of an earlier version, and is one of the version that is read, with the same entries, and that is said.
--- Or it is as it was, and why is told. No store is opened for a command.
+-- What was kept under the path of an earlier version, if anything was, is kept there by the version that is read, and that version is said.
+-- Or all is as it was, and why is told. No store is opened for a command.
 abbrev pub DoesMigration : StoresSeen → WriterSeen → WriterSeen → Ran → Type 0
 DoesMigration stored output errors ran =
     stored.Unopened × ((stored.Moved × Prints (Ok version_line) output errors ran)

@@ -1,4 +1,4 @@
--- How the end of a stream is told to a shell: by the exit status, and by a name.
+-- How the end of a command is told to a shell: by the exit status; and that of a stream by a name too.
 use Rattle.std.specs.Prelude.{◌≡◌, ◌⊎◌, ℕ, List, codes}
 use Rattle.as2_http.specs.declared.stream.Served.{Served}
 use Rattle.as2_http.specs.declared.stream.Served.TheVariants as end

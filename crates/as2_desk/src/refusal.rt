@@ -1,4 +1,4 @@
-//! Why something was refused, in one line on standard error.
+//! Why something was refused: a line on standard error, and a hint behind it where there is one.
 ghost use Rattle.std.specs.Prelude.{◌≡◌, ◌⊎◌, ◌≤◌, length, false, true};
 ghost use Rattle.as2_desk.specs.Refusals.{agreements_line, damaged_lines, error_line, path_hint, refusal_name, refusal_status, refused_line, store_fault_name, store_lines, table_name};
 ghost use Rattle.as2_desk.specs.Endings.{EndsRefused};
@@ -28,7 +28,7 @@ pub enum CommandFault {
     Memory,
     /// The agreements have a fault.
     Agreements(AgreementFault),
-    /// No store is open.
+    /// The store can't be opened or migrated, or a call of it failed.
     Store(OpenFault),
     /// A stream came to another end than `Closed`.
     Stream(Served),

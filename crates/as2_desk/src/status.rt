@@ -9,13 +9,13 @@ use as2_http::Served;
 pub struct Ran {
     /// The exit status: 0 done, 1 refused, 2 a faulty command line, 3 a fault of the store.
     pub status: u8,
-    /// Whether all that there was to say on standard error could be written.
+    /// Whether what was to be said on standard error could be written. Hints that are said beside it don't count.
     pub told: bool,
 }
 
 /// What was asked for is done.
 pub(crate) const DONE: u8 = 0;
-/// It was refused, and why is said on standard error.
+/// It was refused, and why is said on standard error; or `verify` has findings, which stand on standard output.
 pub(crate) const REFUSED: u8 = 1;
 /// The command line is faulty, and nothing was begun.
 pub(crate) const FAULTY: u8 = 2;

@@ -71,7 +71,7 @@ fn sent_evidence<R: Records>(
 }
 
 /// The files that show how the document of that number in that box stands: its content, its receipt and a page. None where no document
-/// has the number. Answers Memory, Disk or Refused.
+/// has the number. Answers Memory, Disk, Refused or Damaged.
 pub fn evidence<R: Records>(
     records: &mut R,
     alloc: Global,

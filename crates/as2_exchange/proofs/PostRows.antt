@@ -1,6 +1,6 @@
--- Worked rows of what a post is read as.
+-- Worked rows of what a post is read as, and at the end of runs with their answers.
 -- The plan: heads are made from their fields (`message`), and each row tells one view of what the post is read as: the line that refuses it,
--- its names and outcome, its digest. A new line of refusal wants a row in `refused_posts` and one in `first_line_that_fits`.
+-- its sender with its type and outcome, its digest. A new line of refusal wants a row in `refused_posts` and one in `first_line_that_fits`.
 use Rattle.std.proofs.Common.{◌≡◌, ℕ, [], ◌∷◌, Option, Some, None, refl}
 use Rattle.std.specs.Prelude.{codes, replicate, option_map}
 use Rattle.as2_names.specs.Blanks.{without_blanks}

@@ -27,7 +27,7 @@ pub enum PathFault {
     Other,
 }
 
-/// Why no store is open.
+/// Why a store can't be opened or migrated, or which fault a call of it had.
 #[derive(Clone, Copy, Debug, PartialEq, Eq)]
 pub enum OpenFault {
     /// Another process has the file open.

@@ -46,7 +46,7 @@ fn document_object(alloc: Global, document: &OutEntry) -> Result<Vec<u8>, StoreF
     Ok(text)
 }
 
-/// The text, and behind it the lines of rows of documents that are sent. Answers Memory, Disk or Refused.
+/// The text, and behind it the lines of rows of documents that are sent. Answers Memory, Disk, Refused or Damaged.
 fn with_rows<R: Records>(
     records: &mut R,
     mut text: Vec<u8>,
@@ -61,7 +61,7 @@ fn with_rows<R: Records>(
     Ok(text)
 }
 
-/// The text, and behind it the lines of the documents that are outstanding at this moment. Answers Memory, Disk or Refused.
+/// The text, and behind it the lines of the documents that are outstanding at this moment. Answers Memory, Disk, Refused or Damaged.
 fn with_outstanding<R: Records>(
     records: &mut R,
     text: Vec<u8>,
@@ -76,7 +76,7 @@ fn with_outstanding<R: Records>(
     with_rows(records, text, rows.as_slice())
 }
 
-/// The lines of received documents, in order of number. Answers Memory, Disk or Refused.
+/// The lines of received documents, in order of number. Answers Memory, Disk, Refused or Damaged.
 fn received_in_objects<R: Records>(records: &mut R, alloc: Global) -> Result<Vec<u8>, StoreFault>
     ensures listed { Reads (λ s text. text.items
         ≡ object_lines (list_in_objects s)) (R.shows records.old) (R.shows records.new) result }
@@ -86,7 +86,7 @@ fn received_in_objects<R: Records>(records: &mut R, alloc: Global) -> Result<Vec
     in_objects(alloc, rows.as_slice())
 }
 
-/// The lines of the documents that are sent, in order of number: those of that state, or all. Answers Memory, Disk or Refused.
+/// The lines of the documents that are sent, in order of number: those of that state, or all. Answers Memory, Disk, Refused or Damaged.
 fn sent_in_objects<R: Records>(
     records: &mut R,
     alloc: Global,
@@ -100,7 +100,7 @@ fn sent_in_objects<R: Records>(
     with_rows(records, Vec::new(alloc), rows.as_slice())
 }
 
-/// The lines of the listing, in order of number. Answers Memory, Disk or Refused.
+/// The lines of the listing, in order of number. Answers Memory, Disk, Refused or Damaged.
 pub fn listing_in_objects<R: Records>(
     records: &mut R,
     alloc: Global,
@@ -117,7 +117,7 @@ pub fn listing_in_objects<R: Records>(
 }
 
 /// The line of how much is outstanding, and those of the documents that are outstanding at this moment, in order of number. Answers
-/// Memory, Disk or Refused.
+/// Memory, Disk, Refused or Damaged.
 pub fn outstanding_in_objects<R: Records>(
     records: &mut R,
     alloc: Global,
@@ -132,7 +132,7 @@ pub fn outstanding_in_objects<R: Records>(
     with_outstanding(records, text, moment)
 }
 
-/// The line of the document of this number in full, if there is one. Answers Memory, Disk or Refused.
+/// The line of the document of this number in full, if there is one. Answers Memory, Disk, Refused or Damaged.
 pub fn show_in_objects<R: Records>(
     records: &mut R,
     alloc: Global,

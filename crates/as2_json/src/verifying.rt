@@ -40,7 +40,7 @@ fn objects(alloc: Global, findings: &[Finding], received: u64, sent: u64) -> Res
     Ok(text)
 }
 
-/// Looks through all entries of the records, as `as2_audit::verify`, and tells what it finds in objects. Answers Memory, Disk or Refused.
+/// Looks through all entries of the records, as `as2_audit::verify`, and tells what it finds in objects. Answers Memory, Disk, Refused or Damaged.
 pub fn verify_in_objects<R: Records, W: Watch>(
     records: &mut R,
     alloc: Global,

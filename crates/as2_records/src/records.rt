@@ -82,7 +82,7 @@ pub trait Records {
         ensures fault { IfErr result (λ f. may_come f ≡ true) };
 
     /// Time passes: each document whose receipt is overdue at this moment passes into `Overdue`, and each whose last try is into
-    /// `TriesUsed`. Answers how many there are; Memory, Disk or Refused, and then the state stays.
+    /// `TriesUsed`. Answers how many there are; Memory, Disk, Refused or Damaged, and then the state stays.
     fn expire(&mut self, moment: Moment) -> Result<u64, StoreFault>
         ensures passed { Writes (ticked_in moment) (shows self.old) (shows self.new) result }
         ensures counted { (shows self.new).IsClean → IfOk result (TicksAs moment (shows self.old)) }

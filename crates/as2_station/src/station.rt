@@ -266,7 +266,7 @@ impl<R: Records> Station<R> {
     }
 
     /// What is to be sent next at this moment: the receipt of the least number of which a try may begin, or else the document of
-    /// the least number, or nothing. Answers Memory, Disk or Refused.
+    /// the least number, or nothing. Answers Memory, Disk, Refused or Damaged.
     pub fn next(&mut self, moment: Moment) -> Result<Option<Next>, StoreFault>
         ensures next { Reads (λ s found. found ≡ next s moment) (R.shows self.old) (R.shows self.new) result }
         ensures least { Reads (λ s found. IsNext s moment found) (R.shows self.old) (R.shows self.new) result }
@@ -277,7 +277,7 @@ impl<R: Records> Station<R> {
 
     /// What is to be sent next at this moment behind what was looked at last. Behind a receipt it is the due receipt of the next
     /// number, or else the due document of the least number. Behind a document it is the due document of the next number. Or it is
-    /// nothing. Where nothing was looked at it is what `next` answers. Answers Memory, Disk or Refused.
+    /// nothing. Where nothing was looked at it is what `next` answers. Answers Memory, Disk, Refused or Damaged.
     pub fn next_behind(
         &mut self,
         moment: Moment,
@@ -339,7 +339,7 @@ impl<R: Records> Station<R> {
         destination(&mut self.records, alloc, agreements, what)
     }
 
-    /// The listing that is asked for, a line each, in order of number. Answers Memory, Disk or Refused.
+    /// The listing that is asked for, a line each, in order of number. Answers Memory, Disk, Refused or Damaged.
     pub fn listing(&mut self, alloc: Global, filter: Filter) -> Result<String, StoreFault>
         ensures listing { Reads (λ s text. string_bytes text
             ≡ listing_text filter s) (R.shows self.old) (R.shows self.new) result }
@@ -352,7 +352,7 @@ impl<R: Records> Station<R> {
     }
 
     /// How much is outstanding, a line for each of five counts, and the lines of the documents that are under way and due at this
-    /// moment. Answers Memory, Disk or Refused.
+    /// moment. Answers Memory, Disk, Refused or Damaged.
     pub fn outstanding(&mut self, alloc: Global, moment: Moment) -> Result<String, StoreFault>
         ensures outstanding { Reads (λ s text. string_bytes text
             ≡ outstanding_text s moment) (R.shows self.old) (R.shows self.new) result }
@@ -361,8 +361,8 @@ impl<R: Records> Station<R> {
         viewing::outstanding(&mut self.records, alloc, moment)
     }
 
-    /// All that is known of the document of this number, a line each; None where there is no such document. Answers Memory, Disk
-    /// or Refused.
+    /// What `show` tells of the document of this number in the outbox, a line each; None where there is no such document. Answers
+    /// Memory, Disk, Refused or Damaged.
     pub fn show(&mut self, alloc: Global, number: u64) -> Result<Option<String>, StoreFault>
         ensures shown { Reads (λ s text. option_map string_bytes text
             ≡ show_text s number) (R.shows self.old) (R.shows self.new) result }
@@ -371,7 +371,7 @@ impl<R: Records> Station<R> {
         viewing::show(&mut self.records, alloc, number)
     }
 
-    /// The listing for programs: an object in each line. Answers Memory, Disk or Refused.
+    /// The listing for programs: an object in each line. Answers Memory, Disk, Refused or Damaged.
     pub fn listing_in_objects(
         &mut self,
         alloc: Global,
@@ -385,7 +385,7 @@ impl<R: Records> Station<R> {
     }
 
     /// How much is outstanding, for programs: the counts in one object, and one for each document that is under way and due at this moment.
-    /// Answers Memory, Disk or Refused.
+    /// Answers Memory, Disk, Refused or Damaged.
     pub fn outstanding_in_objects(
         &mut self,
         alloc: Global,
@@ -398,8 +398,8 @@ impl<R: Records> Station<R> {
         as2_json::outstanding_in_objects(&mut self.records, alloc, moment)
     }
 
-    /// All that is known of the document of this number, for programs: an object in a line; None where there is no such document. Answers
-    /// Memory, Disk or Refused.
+    /// What `show` tells of the document of this number in the outbox, for programs: an object in a line; None where there is no such
+    /// document. Answers Memory, Disk, Refused or Damaged.
     pub fn show_in_objects(
         &mut self,
         alloc: Global,
@@ -412,7 +412,7 @@ impl<R: Records> Station<R> {
         as2_json::show_in_objects(&mut self.records, alloc, number)
     }
 
-    /// The content of the received document of this number; None where there is no such entry. Answers Memory, Disk or Refused.
+    /// The content of the received document of this number; None where there is no such entry. Answers Memory, Disk, Refused or Damaged.
     pub fn fetch(&mut self, alloc: Global, number: u64) -> Result<Option<Vec<u8>>, StoreFault>
         ensures fetched { Reads (λ s content. option_map (λ v. v.items) content
             ≡ fetch s number) (R.shows self.old) (R.shows self.new) result }
