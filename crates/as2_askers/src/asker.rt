@@ -1,6 +1,6 @@
 //! Somebody who asks at the control socket: one demand is read, and one outcome is told.
 
-use crate::bounds::{READS, SILENCE, WAIT};
+use crate::bounds::{DEMAND, PACE, READS, SILENCE, WAIT};
 use as2_control::{MOST_BYTES, StillToCome, awaited};
 use mio::net::UnixStream;
 use std::alloc::Global;
@@ -44,6 +44,8 @@ pub(crate) struct Asker {
     sent: usize,
     /// When bytes last came or went, in milliseconds.
     pub moved: u64,
+    /// When the demand began, or the telling of its outcome, in milliseconds.
+    pub began: u64,
 }
 
 impl Asker {
@@ -58,6 +60,7 @@ impl Asker {
             reply: Vec::new(alloc),
             sent: 0,
             moved: now,
+            began: now,
         }
     }
 
@@ -97,14 +100,15 @@ impl Asker {
         mem::replace(&mut self.came, Vec::new(alloc))
     }
 
-    /// Its time is over. Who waits for an answer is waited for.
+    /// Whether its time is over: a demand, and the telling of an outcome, has a limit as a whole. Who waits for an answer is waited for.
     pub(crate) fn is_slow(&self, now: u64) -> bool {
-        let wait = match self.asking {
+        let (wait, whole) = match self.asking {
             Asking::Waits | Asking::Stops => return false,
-            Asking::Speaks if self.came.is_empty() => SILENCE,
-            _ => WAIT,
+            Asking::Speaks if self.came.is_empty() => (SILENCE, DEMAND),
+            Asking::Speaks => (WAIT, DEMAND),
+            Asking::Hears => (WAIT, WAIT.saturating_add(self.reply.len() as u64 / PACE)),
         };
-        self.moved.saturating_add(wait) <= now
+        self.moved.saturating_add(wait) <= now || self.began.saturating_add(whole) <= now
     }
 
     /// The outcome has this frame.
@@ -112,6 +116,7 @@ impl Asker {
         self.reply = frame;
         self.asking = Asking::Hears;
         self.moved = now;
+        self.began = now;
     }
 
     /// Writes of the outcome what the system takes. Over too once all of it went.

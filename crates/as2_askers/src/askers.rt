@@ -1,7 +1,7 @@
 //! All who ask at the control socket.
 
 use crate::asker::{Asker, Asking, Went};
-use crate::bounds::{ACCEPTS, SEATS};
+use crate::bounds::{ACCEPTS, LOOK, SEATS};
 use crate::control::Control;
 use as2_control::{FrameFault, Outcome, outcome_frame};
 use mio::event::Event;
@@ -25,6 +25,8 @@ pub struct Askers {
     /// The system had no connection to give.
     is_held_up: bool,
     seats: Vec<Option<Asker>>,
+    /// When the seats were last gone through, in milliseconds.
+    went: u64,
 }
 
 /// The seat of a token, where it is that of somebody who asks.
@@ -56,6 +58,7 @@ impl Askers {
             may_accept: true,
             is_held_up: false,
             seats,
+            went: 0,
         })
     }
 
@@ -122,12 +125,21 @@ impl Askers {
         }
     }
 
+    /// How long the station was busy since it last looked at who asks, in milliseconds. Nobody is slow for that.
+    fn busy_since(&mut self, now: u64) -> u64 {
+        let since = now.saturating_sub(self.went);
+        self.went = now;
+        since.saturating_sub(LOOK)
+    }
+
     /// Reads and writes at each seat, and lets those go who are done, broken, or too slow.
     pub fn go_on(&mut self, buffer: &mut [u8], now: u64) {
+        let busy = self.busy_since(now);
         for seat in &mut self.seats {
             let Some(asker) = seat else {
                 continue;
             };
+            asker.began = asker.began.saturating_add(busy);
             let is_over = asker.read(buffer, now) == Went::Over || asker.write(now) == Went::Over;
             if is_over || asker.is_slow(now) {
                 *seat = None;

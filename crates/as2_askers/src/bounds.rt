@@ -12,5 +12,14 @@ pub(crate) const READS: usize = 4;
 /// How long one is waited for, in milliseconds.
 pub(crate) const WAIT: u64 = 30_000;
 
-/// .. and where nothing was said yet.
+/// .. and if nothing was said yet.
 pub(crate) const SILENCE: u64 = 2_000;
+
+/// How long a demand may take as a whole, in milliseconds.
+pub(crate) const DEMAND: u64 = 5_000;
+
+/// The least pace at which an outcome is read, in bytes a millisecond. A long outcome may take longer than `WAIT` as a whole.
+pub(crate) const PACE: u64 = 16;
+
+/// How often a station looks at who asks, at least, in milliseconds.
+pub(crate) const LOOK: u64 = 1_000;

@@ -74,7 +74,7 @@ damaged_lines place =
 
 -- `store: NAME`, and behind it what may help
 abbrev pub store_lines : OpenFault → List ℕ
-store_lines Held = codes "store: Refused\nhint: another process has the file open\n"
+store_lines Held = codes "store: Refused\nhint: another process has the file open; a station that is starting can be asked in a moment\n"
 store_lines LogAlone = codes "store: Refused\nhint: the file isn't there, but a log of it is; nothing was made\n"
 store_lines (Path fault) = codes "store: " ++ (codes "Refused" ++ path_hint fault)
 store_lines (Store store_fault.OtherVersion) = codes "store: OtherVersion\nhint: stores of version 3 are read; 'migrate' makes one of a store of version 1 or 2\n"

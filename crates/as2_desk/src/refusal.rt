@@ -166,7 +166,7 @@ fn store_lines(fault: OpenFault) -> Line
         OpenFault::Held => joined(
             "store: ",
             "Refused",
-            "\nhint: another process has the file open\n",
+            "\nhint: another process has the file open; a station that is starting can be asked in a moment\n",
         ),
         OpenFault::LogAlone => joined(
             "store: ",

@@ -47,8 +47,9 @@ pub trait KeepFiles<R: Rounds> {
     // the files are what was left of this round, which was lost
     ghost lost_of: { R.Round → TheFiles Self.Disk → Type 0 };
 
-    /// Opens the records in the files of that name.
-    fn open_records(self, rt: &HostRuntime, name: &str) -> Result<R, OpenFault>
+    /// Opens the records in the files of that name. If `settles`, what a log holds that was left there is copied into the database file,
+    /// down to the disk, first.
+    fn open_records(self, rt: &HostRuntime, name: &str, settles: bool) -> Result<R, OpenFault>
         ensures found { IfOk result (λ r. (R.shows r).IsClean → IsTrue (R.shows r).is_open
             × ((s : State) → HoldsState (image name.now) s → (R.shows r).Rests s)) };
 
@@ -81,15 +82,17 @@ pub struct InFiles<F> {
 }
 
 /// Opens the store in the two files of that name. Where all that is read is what had been written, its tables stand for what the files
-/// held. Held where another process has them open; NotAStore where they hold no store; else the fault of SQLite.
+/// held. If `settles`, what a log holds that was left there is copied into the database file, down to the disk, first. Held if another
+/// process has them open; NotAStore if they hold no store; otherwise the fault of SQLite.
 pub fn open_in_files<F: OpenFiles>(
     rt: &HostRuntime,
     opener: F,
     name: &str,
+    settles: bool,
 ) -> Result<Kept<FileStore<F::Disk>>, OpenFault>
     ensures { IfOk result (λ records. IsFound (F.image name.now) (file_state records)) }
 {
-    let conn = match opener.open_files(rt, name) {
+    let conn = match opener.open_files(rt, name, settles) {
         Ok(conn) => conn,
         Err(error) => return Err(opening_fault(error)),
     };
@@ -127,8 +130,9 @@ impl<F: OpenFiles + Drop> KeepFiles<Kept<FileStore<F::Disk>>> for InFiles<F> {
         self,
         rt: &HostRuntime,
         name: &str,
+        settles: bool,
     ) -> Result<Kept<FileStore<F::Disk>>, OpenFault> {
-        open_in_files(rt, self.opener, name)
+        open_in_files(rt, self.opener, name, settles)
     }
 
     fn migrate_records(self, rt: &HostRuntime, name: &str) -> Result<Moved<F::Disk>, OpenFault> {

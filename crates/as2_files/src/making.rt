@@ -9,6 +9,7 @@ use as2_host::{MakeFiles, MakingFault};
 use as2_mic::Pieces;
 use std::alloc::{AllocError, Global};
 use std::fs::OpenOptions;
+use std::hash::{BuildHasher, RandomState};
 use std::io::{ErrorKind, Write};
 use std::{fs, io};
 
@@ -75,32 +76,55 @@ fn fill(content: &Pieces, file: &mut fs::File) -> io::Result<()> {
 }
 
 impl FileSystem<'_> {
-    /// Refuses names of which one is taken, be it by a link to nothing.
+    /// Refuses a name that is taken, be it by a link to nothing.
+    fn refuse_one(&self, name: &str) -> Result<(), MakingFault> {
+        match fs::symlink_metadata(self.rt, name) {
+            Ok(_) => Err(MakingFault::Exists),
+            Err(error) if error.kind() == ErrorKind::NotFound => Ok(()),
+            Err(error) => Err(making_fault(error)),
+        }
+    }
+
+    /// Refuses names of which one is taken.
     fn refuse_taken(&self, names: &[String]) -> Result<(), MakingFault> {
         for name in names {
-            match fs::symlink_metadata(self.rt, name) {
-                Ok(_) => return Err(MakingFault::Exists),
-                Err(error) if error.kind() == ErrorKind::NotFound => {}
-                Err(error) => return Err(making_fault(error)),
-            }
+            self.refuse_one(name.as_str())?;
         }
         Ok(())
     }
 
-    /// Makes a file of that name, which nothing has. Where its content can't be written whole, it is taken away again.
-    fn make_file(&self, name: &str, content: &Pieces) -> Result<(), MakingFault> {
+    /// The name under which a file is written before it gets its own: no other process has it.
+    fn draft_name(&self, name: &str) -> Result<String, MakingFault> {
+        let number = RandomState::new(self.rt)
+            .map_err(making_fault)?
+            .hash_one(&0u8);
+        match format!(in self.rt.alloc(); "{name}.{number}.part") {
+            Ok(draft) => Ok(draft),
+            Err(_) => Err(MakingFault::Memory),
+        }
+    }
+
+    /// Writes a file under its draft's name, down to the disk, and gives it its own, which nothing has.
+    fn write_draft(&self, draft: &str, name: &str, content: &Pieces) -> Result<(), MakingFault> {
         let mut file = OpenOptions::new()
             .write(true)
             .create_new(true)
-            .open(self.rt, name)
+            .open(self.rt, draft)
             .map_err(making_fault)?;
-        match fill(content, &mut file) {
-            Ok(()) => Ok(()),
-            Err(error) => {
-                self.remove(name);
-                Err(making_fault(error))
-            }
+        fill(content, &mut file).map_err(making_fault)?;
+        self.refuse_one(name)?;
+        fs::rename(self.rt, draft, name).map_err(making_fault)
+    }
+
+    /// Makes a file of that name, which nothing has. It is whole as soon as it has its name, whatever stops the program. If its content
+    /// can't be written whole, no file is left.
+    fn make_file(&self, name: &str, content: &Pieces) -> Result<(), MakingFault> {
+        let draft = self.draft_name(name)?;
+        let made = self.write_draft(draft.as_str(), name, content);
+        if made.is_err() {
+            self.remove(draft.as_str());
         }
+        made
     }
 
     /// Takes away the files of the first of these names, so many.

@@ -116,7 +116,8 @@ pub fn migrate_in_files<F: OpenFiles>(
         → EndsIn F.Disk.Disk (leaves_of_store F.Disk.Disk) it.end (migrated_if_first s)) }
     ensures alone { IfOk result (λ it. IfClosed (NeedsNoLog F.Disk.Disk) it.end) }
 {
-    let mut conn = match opener.open_files(rt, name) {
+    // (its close copies what the log holds)
+    let mut conn = match opener.open_files(rt, name, false) {
         Ok(conn) => conn,
         Err(error) => return Err(opening_fault(error)),
     };

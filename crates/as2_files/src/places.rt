@@ -64,6 +64,11 @@ impl Place {
     pub(crate) fn log(&self) -> &str {
         self.log.as_str()
     }
+
+    /// Whether its log lay there already, before the store was opened: a process that used the store has not closed it.
+    pub(crate) fn had_log(&self) -> bool {
+        self.had_log
+    }
 }
 
 impl FileSystem<'_> {

@@ -91,7 +91,7 @@ impl<R: Rounds + Drop, K: KeepFiles<R> + Drop> OpenStores for StoreFiles<'_, R, 
         let Some(keeper) = self.keeper.take() else {
             return Err(OpenFault::Held);
         };
-        let records = match keeper.open_records(self.files.rt, place.name()) {
+        let records = match keeper.open_records(self.files.rt, place.name(), place.had_log()) {
             Ok(records) => records,
             Err(fault) => return Err(self.files.opening_failed(&place, fault)),
         };

@@ -27,7 +27,7 @@ use Rattle.as2_desk.specs.declared.refusal.CommandFault.{CommandFault}
 use Rattle.as2_desk.specs.declared.refusal.CommandFault.TheVariants as fault
 use Rattle.as2_desk.specs.declared.status.Ran.{Ran}
 use Rattle.as2_commands.specs.declared.tasks.RunOptions.{RunOptions}
-use Rattle.as2_live.specs.Living.{LeadsByOne}
+use Rattle.as2_live.specs.Living.{IsOfCommand, LeadsByOne}
 use Rattle.as2_records.specs.Standing.{Medium, Standing}
 use Rattle.as2_desk.specs.Stores.{ByPlace, IsKeptAt, StoreBegins, is_in_memory}
 use Rattle.as2_lent.specs.Lending.{IsLendable}
@@ -42,18 +42,18 @@ module _ (A : AgreedValues) (s : State) (Left : State → Type 0) where
   at t is left = stays (subst Left is left)
 
   -- one event was answered, and something is told of it
-  answered : (e : Event) (t : State) (tells : ToPrint) (a : Answer) (mid : State) (of : Option ToPrint) → step A s e ≡ Some (a, mid)
+  answered : (e : Event) → IsOfCommand e → (t : State) (tells : ToPrint) (a : Answer) (mid : State) (of : Option ToPrint) → step A s e ≡ Some (a, mid)
       → option_map {U = ToPrint × State} (λ (x : ToPrint). (x, mid)) of ≡ Some (tells, t) → Left t → LeadsByOne A s Left
-  answered e t tells a mid None is by left = absurd cc
-  answered e t tells a mid (Some x) is by left =
+  answered e made t tells a mid None is by left = absurd cc
+  answered e made t tells a mid (Some x) is by left =
       let pair : ◌≡◌ {A = ToPrint × State} (x, mid) (tells, t) = cc in
       let same : mid ≡ t = ap (λ (p : ToPrint × State). p.1) pair in
-      record { state = t; left = left; events = AnEvent e (Answered a) ∷ []; one = tt; run = (mid, is, sym same) }
+      record { state = t; left = left; events = AnEvent e (Answered a) ∷ []; one = made; run = (mid, is, sym same) }
 
-  stepped : (q : QuestionInHand) (e : Event) (t : State) (tells : ToPrint) (came : Option (Answer × State)) → step A s e ≡ came
+  stepped : (q : QuestionInHand) (e : Event) → IsOfCommand e → (t : State) (tells : ToPrint) (came : Option (Answer × State)) → step A s e ≡ came
       → told_by_step q came ≡ Some (tells, t) → Left t → LeadsByOne A s Left
-  stepped q e t tells None is by left = absurd cc
-  stepped q e t tells (Some (a, mid)) is by left = answered e t tells a mid (told_of q a) is by left
+  stepped q e made t tells None is by left = absurd cc
+  stepped q e made t tells (Some (a, mid)) is by left = answered e made t tells a mid (told_of q a) is by left
 
   same_state : (x tells : ToPrint) (t : State) → ◌≡◌ {A = Option (ToPrint × State)} (Some (x, s)) (Some (tells, t)) → t ≡ s
   same_state x tells t by =
@@ -63,9 +63,9 @@ module _ (A : AgreedValues) (s : State) (Left : State → Type 0) where
   -- what is told is what the machine and the views answer
   told : (m : ℕ) (q : QuestionInHand) (t : State) (tells : ToPrint) → told_by A m q s ≡ Some (tells, t) → Left t → LeadsByOne A s Left
   told m (question.Submit d) t tells by left =
-      stepped (question.Submit d) (event.Submit d.organization d.partner d.content m) t tells _ refl by left
-  told m question.Tick t tells by left = stepped question.Tick (event.Tick m) t tells _ refl by left
-  told m (question.Resend n) t tells by left = stepped (question.Resend n) (event.Resend n m) t tells _ refl by left
+      stepped (question.Submit d) (event.Submit d.organization d.partner d.content m) tt t tells _ refl by left
+  told m question.Tick t tells by left = stepped question.Tick (event.Tick m) tt t tells _ refl by left
+  told m (question.Resend n) t tells by left = stepped (question.Resend n) (event.Resend n m) tt t tells _ refl by left
   told m (question.List filter idle format) t tells by left = at t (same_state _ tells t by) left
   told m (question.Outstanding format) t tells by left = at t (same_state _ tells t by) left
   told m (question.Show n format) t tells by left = at t (same_state _ tells t by) left

@@ -2,11 +2,12 @@
 use Rattle.std.specs.Prelude.{◌≡◌, ℕ, Bool, false, List, [], ◌∷◌, ◌++◌, length, map, slice_get, Option, Some, None, is_some, ⊤}
 use Rattle.as2_agreement.specs.Agreements.{AgreedValues}
 use Rattle.as2_exchange.specs.Run as run
-use Rattle.as2_exchange.specs.Run.{AnEvent, Answered, EventResult, Run, Trace}
+use Rattle.as2_exchange.specs.Run.{AMigration, AnEvent, Answered, EventResult, Run, Trace}
 use Rattle.as2_exchange.specs.State.{State}
 use Rattle.as2_exchange.specs.declared.answer.Answer.TheVariants.{Job as Handed, Refused}
 use Rattle.as2_exchange.specs.declared.answer.Job.{Job}
-use Rattle.as2_exchange.specs.declared.event.Event.TheVariants.{Tick}
+use Rattle.as2_exchange.specs.declared.event.Event.{Event}
+use Rattle.as2_exchange.specs.declared.event.Event.TheVariants.{Resend, Submit, Tick}
 use Rattle.as2_exchange.specs.declared.event.TryAnswer.{TryAnswer}
 use Rattle.as2_exchange.specs.declared.fault.StoreFault.{StoreFault}
 use Rattle.as2_exchange.specs.declared.next.Next.{Next}
@@ -92,10 +93,18 @@ at_a_link is what = map AtALink (if_so is what)
 
 -- ---- where it leads
 
--- one event, or none
+-- a command makes it: a document is handed in or sent anew, or a moment has come
+abbrev pub IsOfCommand : Event → Type 0
+IsOfCommand (Submit organization partner content moment) = ⊤
+IsOfCommand (Resend number moment) = ⊤
+IsOfCommand (Tick moment) = ⊤
+IsOfCommand other = ⊥
+
+-- one event that a command makes, or none
 abbrev pub IsOneAtMost : Trace → Type 0
 IsOneAtMost [] = ⊤
-IsOneAtMost (event ∷ []) = ⊤
+IsOneAtMost (AnEvent event said ∷ []) = IsOfCommand event
+IsOneAtMost (AMigration next_in ∷ []) = ⊥
 IsOneAtMost (first ∷ second ∷ others) = ⊥
 
 -- from the state s one event, with what was said to it, or none led the machine to a state that is left

@@ -1,5 +1,5 @@
 //! A live station, as whoever has its sockets drives it.
-ghost use Rattle.std.specs.Prelude.{◌≡◌, ◌∷◌, ◌⊎◌, [], IfErr, IfOk, IfSome, min, is_some, length, slice_get, take, true};
+ghost use Rattle.std.specs.Prelude.{◌≡◌, ◌∷◌, ◌⊎◌, [], IfErr, IfOk, IfSome, min, is_none, is_some, length, list_any, position, slice_get, take, true};
 ghost use Rattle.as2_hub.specs.Places.{is_vacant, output_at, places, room_in};
 ghost use Rattle.as2_hub.specs.Happenings.{Closes};
 ghost use Rattle.as2_hub.specs.Inputs.{comes_if, goes_to, opens_if};
@@ -12,7 +12,7 @@ ghost use Rattle.as2_records.specs.Standing.{may_come};
 ghost use Rattle.as2_station.specs.Due.{destination, next_behind};
 ghost use Rattle.as2_live.specs.Living.{AnswersPlaces, BeginsOn, EndsOn, IfFailed, IfPlace, LivesBy, LosesLive, PassesLive, Ticks, all_at_places, at_a_link};
 ghost use Rattle.as2_links.specs.Happenings.{Cuts, Hears, Sends};
-ghost use Rattle.as2_links.specs.Links.{MayOpen, awaits_answer, link_in, links_of, unsent_at};
+ghost use Rattle.as2_links.specs.Links.{MayOpen, awaits_answer, is_for, link_in, links_of, unsent_at};
 
 use crate::tries::{EndedTry, TryBegun};
 use as2_exchange::{Bytes, Next, StoreFault};
@@ -42,28 +42,33 @@ impl<'a, K: Records> Live<'a, K> {
         Live { hub, desk, links }
     }
 
-    /// The connections, to be looked at.
-    pub fn hub(&self) -> &Hub
-        ensures { result.now ≡ self.now.hub }
+    /// The desk alone. The connections and the links are let go, and what was to be written to them is gone with them.
+    pub fn into_desk(self) -> StationDesk<'a, K>
+        ensures { result ≡ self.entry.desk }
     {
-        &self.hub
+        let Live { desk, .. } = self;
+        desk
     }
 
-    /// The links, to be looked at.
-    pub fn links(&self) -> &LinkTable
-        ensures { result.now ≡ self.now.links }
+    /// The first place at which no link is open.
+    pub fn free_link(&self) -> Option<usize>
+        ensures { result ≡ position is_none (links_of self.now.links) }
     {
-        &self.links
+        self.links.free_place()
     }
 
-    /// Gives the connections, the desk and the links back.
-    pub fn into_parts(self) -> (Hub, StationDesk<'a, K>, LinkTable)
-        ensures hub { result.0 ≡ self.entry.hub }
-        ensures desk { result.1 ≡ self.entry.desk }
-        ensures links { result.2 ≡ self.entry.links }
+    /// The place of the link that is open for it.
+    pub fn place_for(&self, what: Next) -> Option<usize>
+        ensures { result ≡ position (is_for what) (links_of self.now.links) }
     {
-        let Live { hub, desk, links } = self;
-        (hub, desk, links)
+        self.links.place_for(what)
+    }
+
+    /// Whether a link is open for it.
+    pub fn is_open_for(&self, what: Next) -> bool
+        ensures { result ≡ list_any (is_for what) (links_of self.now.links) }
+    {
+        self.links.is_open_for(what)
     }
 
     /// A connection is opened at this place. False: there is no such place, or somebody has it, and nothing changes.
@@ -186,9 +191,33 @@ impl<'a, K: Records> Live<'a, K> {
     }
 }
 
-/// Bytes go only while nothing is held back. A live station in a round is one over `K::Round`, which has none of these calls: whoever is
-/// generic over `K` can't send before the round is committed.
+/// Bytes go only while nothing is held back. A live station in a round is one over `K::Round`, which has none of these calls. So code that
+/// is generic over `K` can neither read what is to be written before the round is committed, nor say that it went.
 impl<'a, K: Rounds> Live<'a, K> {
+    /// The connections, to be looked at.
+    pub fn hub(&self) -> &Hub
+        ensures { result.now ≡ self.now.hub }
+    {
+        &self.hub
+    }
+
+    /// The links, to be looked at.
+    pub fn links(&self) -> &LinkTable
+        ensures { result.now ≡ self.now.links }
+    {
+        &self.links
+    }
+
+    /// Gives the connections, the desk and the links back.
+    pub fn into_parts(self) -> (Hub, StationDesk<'a, K>, LinkTable)
+        ensures hub { result.0 ≡ self.entry.hub }
+        ensures desk { result.1 ≡ self.entry.desk }
+        ensures links { result.2 ≡ self.entry.links }
+    {
+        let Live { hub, desk, links } = self;
+        (hub, desk, links)
+    }
+
     /// Begins a round of the records: what is written from now on is held back, to be committed at once. Where that fails it is given back.
     pub fn hold(self) -> Result<Live<'a, K::Round>, Live<'a, K>>
         ensures begun { IfOk result (λ round. PassesLive K.shows K.Round.shows self.entry round) }

@@ -1,5 +1,5 @@
 -- A station's store: it is opened, led on and closed; or what is kept there is kept.
-use Rattle.std.proofs.Common.{◌≡◌, ◌∙◌, IsTrue, inl, inr, Bool, true, false, if◌then◌else◌, ℕ, List, Option, Some, None, Result, Ok, Err, sym, ap, subst}
+use Rattle.std.proofs.Common.{◌≡◌, ◌∙◌, ◌+◌, IsTrue, inl, inr, Bool, true, false, if◌then◌else◌, ℕ, List, Option, Some, None, Result, Ok, Err, sym, ap, subst}
 use Rattle.std.specs.Prelude.{IfErr, IfOk, IfSome, string_bytes}
 use Rattle.as2_agreement.specs.Agreements.{AgreedValues}
 use Rattle.as2_exchange.specs.State.{State}
@@ -42,12 +42,16 @@ module _ {O Opened InMemory : Type 0} (g : Stores O Opened InMemory) {M : Medium
   pub opened_anew : {X E : Type 0} (at : List ℕ) → at ≡ path → (A : AgreedValues) (first : ℕ) (old : O) (records : Opened) (came : Result X E)
       → ((shows records).IsClean → g.is_clean old)
       → ((shows records).IsClean → IsTrue (shows records).is_open × ((s : State) → g.keeps old at first s → (shows records).Rests s))
-      → IfOk came (λ (_ : X). LeadsFrom g path A (shows records).IsClean (shows records).Rests new) → IfOk came (λ (_ : X). LeadsOn g path A first old new)
-  opened_anew at is A first old records (Ok x) before found led = inl (record {
-    clean = λ clean. before (led.clean clean);
-    led = λ clean s kept. led.led clean s ((found (led.clean clean)).1 s (subst (λ (p : List ℕ). g.keeps old p first s) (sym is) kept));
+      → IfOk came (λ (_ : X). LeadsFrom g path A (shows records).IsClean (shows records).Rests new) → g.opens new ≡ g.opens old + 1
+      → IfOk came (λ (_ : X). LeadsOn g path A first old new)
+  opened_anew at is A first old records (Ok x) before found led counted = inl (record {
+    leads = record {
+      clean = λ clean. before (led.clean clean);
+      led = λ clean s kept. led.led clean s ((found (led.clean clean)).1 s (subst (λ (p : List ℕ). g.keeps old p first s) (sym is) kept));
+    };
+    counted = counted;
   })
-  opened_anew at is A first old records (Err e) before found led = tt
+  opened_anew at is A first old records (Err e) before found led counted = tt
 
   -- what was opened is what was kept
   pub opened_before : (A : AgreedValues) (first : ℕ) (old : O) (records : Opened) → ((shows records).IsClean → g.is_clean old)
@@ -66,12 +70,14 @@ if_left false held P it = tt
 -- where a store couldn't be opened anew, what was kept is kept
 pub kept_unopened : {O Opened InMemory : Type 0} (g : Stores O Opened InMemory) (at path : List ℕ) (old new : O) → at ≡ path
     → {X E : Type 0} (A : AgreedValues) (first : ℕ) (came : Result X E) → (g.is_clean new → g.is_clean old)
-    → ((number : ℕ) (s : State) → g.keeps old at number s → g.keeps new at number s) → IfOk came (λ (_ : X). LeadsOn g path A first old new)
-kept_unopened g at path old new is A first (Ok x) clean same = inr (record {
+    → ((number : ℕ) (s : State) → g.keeps old at number s → g.keeps new at number s) → g.opens new ≡ g.opens old
+    → IfOk came (λ (_ : X). LeadsOn g path A first old new)
+kept_unopened g at path old new is A first (Ok x) clean same counted = inr (record {
   clean = clean;
   same = subst (λ (p : List ℕ). (number : ℕ) (s : State) → g.keeps old p number s → g.keeps new p number s) is same;
+  counted = counted;
 })
-kept_unopened g at path old new is A first (Err e) clean same = tt
+kept_unopened g at path old new is A first (Err e) clean same counted = tt
 
 -- what came of a station that has run, and what is to go on
 pub went : (basis : Basis) (L : Type 0) (came : Result Held CommandFault) (told : Spanned) → TellsCame came told → HasRun told

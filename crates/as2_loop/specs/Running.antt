@@ -1,5 +1,5 @@
 -- What a station that runs makes of its records.
-use Rattle.std.specs.Prelude.{◌≡◌, ◌≢◌, ◌⊎◌, ℕ, List, Option, Result, Ok, Err, string_bytes, ⊤, if◌then◌else◌}
+use Rattle.std.specs.Prelude.{◌≡◌, ◌≢◌, ◌⊎◌, ◌+◌, ℕ, List, Option, Result, Ok, Err, string_bytes, ⊤, if◌then◌else◌}
 use Rattle.clap.specs.Words.{Text}
 use Rattle.as2_agreement.specs.Agreements.{AgreedValues}
 use Rattle.as2_agreement.specs.Reading.{agreements_reading}
@@ -89,15 +89,20 @@ module _ {O Opened InMemory : Type 0} (g : Stores O Opened InMemory) (path : Lis
     pub clean : g.is_clean new → shown.IsClean
     pub kept : g.is_clean new → (s : State) → shown.Rests s → (number : ℕ) → g.keeps new path number s
 
-  -- what was kept under it is kept
+  -- what was kept under it is kept, and no store was opened
   pub record KeepsAll (old new : O) : Type 0 where
     pub clean : g.is_clean new → g.is_clean old
     pub same : (number : ℕ) (s : State) → g.keeps old path number s → g.keeps new path number s
+    pub counted : g.opens new ≡ g.opens old
 
-  -- The store of that path was led on from what was kept under it, a new one from no entry and this first number. Or it wasn't opened,
-  -- and what was kept is kept.
+  -- One store was opened, and the store of that path was led on from what was kept under it, a new one from no entry and this first number.
+  pub record LeadsOne (A : AgreedValues) (first : ℕ) (old new : O) : Type 0 where
+    pub leads : LeadsFrom A (g.is_clean old) (g.keeps old path first) new
+    pub counted : g.opens new ≡ g.opens old + 1
+
+  -- it was led on so, or it couldn't be opened
   abbrev pub LeadsOn : AgreedValues → ℕ → O → O → Type 0
-  LeadsOn A first old new = LeadsFrom A (g.is_clean old) (g.keeps old path first) new ⊎ KeepsAll old new
+  LeadsOn A first old new = LeadsOne A first old new ⊎ KeepsAll old new
 
 module _ {O Opened InMemory : Type 0} (g : Stores O Opened InMemory) {M N : Medium} {R L : Type 0} (shows : R → Standing M) (in_round : L → Standing N) where
   -- what a station left of its records, or of a round of them that was lost, is kept under that path
@@ -135,7 +140,7 @@ IfShut (Shut held) P = P held
 IfShut other P = ⊤
 
 -- The words ask for a station over that store, and the file that they name has those agreements: by these the store was led on, and by
--- these the station is to go on.
+-- these the station is to go on. No other store was opened.
 pub record BeginsStation {O Opened InMemory : Type 0} (g : Stores O Opened InMemory) (contents : List ℕ → Content) (words : List Text) (old new : O)
     (told : Spanned) : Type 0 where
   pub clock : Option ℕ
@@ -147,6 +152,7 @@ pub record BeginsStation {O Opened InMemory : Type 0} (g : Stores O Opened InMem
   pub agreed : AgreedValues
   pub opens : HasAgreements (contents file) (Ok agreed)
   pub leads : LeadsFrom g path agreed (g.is_clean old) (g.keeps old path run.first) new
+  pub counted : g.opens new ≡ g.opens old + 1
   pub behind : IfShut told (λ held. IsOfText held.basis × (held.basis.agreed.agreements ≡ agreed) × (string_bytes held.basis.store ≡ path))
 
 -- A station that is to go on leads its store on, or leaves what is kept there.

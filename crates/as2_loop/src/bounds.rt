@@ -24,6 +24,9 @@ pub(crate) const ACCEPTS: usize = 64;
 /// How often the limits are looked at, in milliseconds.
 pub(crate) const LOOK: u64 = 1_000;
 
+/// .. while the system has no descriptor to give.
+pub(crate) const SHORT_LOOK: u64 = 250;
+
 /// How long no connection is accepted where the system had none to give, in milliseconds.
 pub(crate) const PAUSE: u64 = 100;
 
@@ -40,6 +43,12 @@ pub(crate) struct Waits {
 
 /// How long another request is waited for where all connections are taken and somebody waits for one, in milliseconds.
 pub(crate) const CROWDED_IDLE: u64 = 2_000;
+
+/// .. and if the system has no descriptor for whoever waits. A client that connects sends its request at once.
+pub(crate) const SHORT_IDLE: u64 = 250;
+
+/// The least pace of a request, in bytes a millisecond. If there is no room for others, the one that is furthest behind it is given up.
+pub(crate) const PACE: u64 = 16;
 
 /// How long what is under way may take once the station is to stop, in milliseconds.
 pub(crate) const STOP: u64 = 10_000;

@@ -17,7 +17,7 @@ use as2_hub::Hub;
 use as2_lent::{Forwarded, refused, run_forwarded};
 use as2_links::LinkTable;
 use as2_live::Live;
-use as2_records::Records;
+use as2_records::{Records, Rounds};
 use as2_station::Station;
 use as2_text::Moment;
 use clap::Error;
@@ -26,6 +26,12 @@ use std::alloc::{AllocError, Global};
 
 /// The exit status of what is done.
 const DONE: u8 = 0;
+
+/// What gives a limit of the store's files, as a word of its own before the number.
+const LIMIT: &str = "--store-limit";
+
+/// .. and as a word with the number.
+const LIMIT_IS: &[u8] = b"--store-limit=";
 
 /// What a station runs by.
 #[derive(Drop)]
@@ -187,7 +193,7 @@ pub(crate) struct Attended<'a, K: Records> {
 }
 
 /// Runs a command line over the records of the station: what came of it, and the station, where its records were given back.
-fn run_words<'a, R: Records + Drop, O: OpenStores>(
+fn run_words<'a, R: Rounds + Drop, O: OpenStores>(
     basis: &'a Basis,
     moment: Moment,
     given: Forwarded<'_>,
@@ -207,11 +213,25 @@ fn run_words<'a, R: Records + Drop, O: OpenStores>(
     (outcome, Some(answering(basis, moment, records, hub, links)))
 }
 
-/// The words of a demand, to be read.
-fn texts_of<'a>(alloc: Global, words: &'a [String]) -> Result<Vec<&'a str>, AllocError> {
+/// Whether a word gives a limit of the store's files.
+fn gives_limit(word: &str) -> bool {
+    word == LIMIT || word.as_bytes().starts_with(LIMIT_IS)
+}
+
+/// The words of a demand, to be read. Unless they give a limit of the store's files, the station's is theirs.
+fn texts_of<'a>(
+    alloc: Global,
+    words: &'a [String],
+    limit: &'a str,
+) -> Result<Vec<&'a str>, AllocError> {
+    let is_limited = words.iter().any(|word| gives_limit(word.as_str()));
     let mut texts = Vec::new(alloc);
-    for word in words {
+    for (i, word) in words.iter().enumerate() {
         texts.push(word.as_str())?;
+        if i == 0 && !is_limited {
+            texts.push(LIMIT)?;
+            texts.push(limit)?;
+        }
     }
     Ok(texts)
 }
@@ -245,7 +265,7 @@ fn unheard<K: Records>(stops: bool, live: Live<'_, K>) -> Attended<'_, K>
 }
 
 /// Does what a demand asks for.
-pub(crate) fn attend<'a, R: Records + Drop, O: OpenStores>(
+pub(crate) fn attend<'a, R: Rounds + Drop, O: OpenStores>(
     basis: &'a Basis,
     moment: Moment,
     demand: &Demand,
@@ -254,7 +274,10 @@ pub(crate) fn attend<'a, R: Records + Drop, O: OpenStores>(
 ) -> Attended<'a, Bounded<R>>
     ensures { IfSome result.live (RunsOn R.shows basis.now live.entry) }
 {
-    let Ok(texts) = texts_of(basis.alloc, &demand.words) else {
+    let Ok(limit) = format!(in basis.alloc; "{}", basis.limit) else {
+        return unheard(false, live);
+    };
+    let Ok(texts) = texts_of(basis.alloc, &demand.words, limit.as_str()) else {
         return unheard(false, live);
     };
     let clock = Some(moment.seconds());

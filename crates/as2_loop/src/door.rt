@@ -12,6 +12,8 @@ pub(crate) struct Door {
     pub may_accept: bool,
     /// Until when nobody is accepted, in milliseconds: the system had no descriptor to give.
     pub pause: u64,
+    /// The system had no descriptor to give, when somebody was last to be accepted.
+    pub is_short: bool,
 }
 
 impl Door {
@@ -21,6 +23,7 @@ impl Door {
             socket: Some(socket),
             may_accept: true,
             pause: 0,
+            is_short: false,
         }
     }
 
@@ -41,6 +44,7 @@ impl Door {
     pub(crate) fn shut(&mut self) {
         self.socket = None;
         self.may_accept = false;
+        self.is_short = false;
     }
 
     /// Who waits, if somebody does.
@@ -50,10 +54,19 @@ impl Door {
             return None;
         };
         match socket.accept() {
-            Ok((stream, _)) => return Some(stream),
-            Err(error) if error.kind() == ErrorKind::WouldBlock => self.may_accept = false,
+            Ok((stream, _)) => {
+                self.is_short = false;
+                return Some(stream);
+            }
+            Err(error) if error.kind() == ErrorKind::WouldBlock => {
+                self.may_accept = false;
+                self.is_short = false;
+            }
             Err(error) if error.kind() == ErrorKind::Interrupted => {}
-            Err(_) => self.pause = now.saturating_add(PAUSE),
+            Err(_) => {
+                self.is_short = true;
+                self.pause = now.saturating_add(PAUSE);
+            }
         }
         None
     }

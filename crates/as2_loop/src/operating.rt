@@ -1,6 +1,6 @@
 //! A station that runs: its store is opened, its sockets are made, and it turns until it is stopped, or its store shuts.
 
-ghost use Rattle.std.specs.Prelude.{◌≡◌, Err, IfErr, IfOk, IfSome, None, string_bytes};
+ghost use Rattle.std.specs.Prelude.{◌≡◌, ◌+◌, Err, IfErr, IfOk, IfSome, None, string_bytes};
 ghost use Rattle.clap.specs.Walk.{texts};
 ghost use Rattle.as2_exchange.specs.State.{State};
 ghost use Rattle.as2_desk.specs.declared.refusal.CommandFault.TheVariants.{CannotListen};
@@ -160,9 +160,7 @@ fn held_of(
     ensures { IfOk result (IsOver agreed store.now) }
 {
     let alloc = rt.alloc();
-    let Ok(hub) = Hub::new(alloc, BOUNDS) else {
-        return Err(io::Error::from(ErrorKind::OutOfMemory));
-    };
+    let hub = new_hub(alloc)?;
     let digest = Sha256::digest(&agreed.text).into();
     let store_path = String::from_str(alloc, store)?;
     let shell = shell_of(rt, store, run.moment, wanted)?;
@@ -189,11 +187,26 @@ struct Turned<R: Rounds + Drop> {
 }
 
 /// The connections of a station, and its records.
-fn parts_of<R: Records + Drop>(live: Live<'_, Bounded<R>>) -> (Hub, R)
+fn parts_of<R: Rounds + Drop>(live: Live<'_, Bounded<R>>) -> (Hub, R)
     ensures { result.1 ≡ live.entry.desk.station.records }
 {
     let (hub, desk, _) = live.into_parts();
     (hub, desk.into_station().into_records().into_records())
+}
+
+/// The records of a round that was lost. Its connections are let go, with what was to be written to them.
+fn lost_records<L: Records + Drop>(round: Live<'_, Bounded<L>>) -> L
+    ensures { result ≡ round.entry.desk.station.records }
+{
+    round.into_desk().into_station().into_records().into_records()
+}
+
+/// No connection is open yet.
+fn new_hub(alloc: Global) -> io::Result<Hub> {
+    match Hub::new(alloc, BOUNDS) {
+        Ok(hub) => Ok(hub),
+        Err(_) => Err(io::Error::from(ErrorKind::OutOfMemory)),
+    }
 }
 
 /// Turns over these records until the station has stopped, or they can't be reached.
@@ -220,7 +233,8 @@ fn turn_over<R: Rounds + Drop, O: OpenStores>(
             })
         }
         Err(round) => {
-            let (hub, records) = parts_of(round);
+            let records = lost_records(round);
+            let hub = new_hub(basis.alloc)?;
             Ok(Turned {
                 records: Err(records),
                 held: Held { basis, hub, shell },
@@ -249,7 +263,8 @@ fn close_left<O: OpenRounds>(
     path: &str,
     left: Result<O::Holding, <O::Holding as Rounds>::Round>,
 )
-    ensures { KeepsLeft O.OpenStores O.Holding.shows O.Holding.Round.shows path.now left stores.new }
+    ensures kept { KeepsLeft O.OpenStores O.Holding.shows O.Holding.Round.shows path.now left stores.new }
+    ensures counted { O.opens stores.new ≡ O.opens stores.old }
 {
     match left {
         Ok(records) => stores.close_holding(path, records),
@@ -268,6 +283,7 @@ fn serve_open<O: OpenRounds>(
     ensures leads { IsOfText held.basis → IfOk result (λ _. LeadsFrom O.OpenStores
         (string_bytes held.basis.store) held.basis.agreed.agreements (O.Opened.shows records).IsClean
         (O.Opened.shows records).Rests stores.new) }
+    ensures counted { O.opens stores.new ≡ O.opens stores.old }
 {
     let Held { basis, hub, shell } = held;
     let mut shell = shell;
@@ -294,6 +310,7 @@ fn opened<O: OpenStores>(
     ensures found { IfOk result (λ records. (O.Opened.shows records).IsClean → (s : State)
         → O.keeps stores.old store.now run.first s → (O.Opened.shows records).Rests s) }
     ensures clean { IfOk result (λ records. (O.Opened.shows records).IsClean → O.is_clean stores.old) }
+    ensures counted { IfOk result (λ _. O.opens stores.new ≡ O.opens stores.old + 1) }
     ensures same { IfErr result (λ _. KeepsAll O.OpenStores store.now stores.old stores.new) }
 {
     if store == IN_MEMORY {
@@ -318,6 +335,7 @@ fn begin<O: OpenRounds>(
     ensures leads { IfOk held (λ h. IsOfText h.basis → string_bytes h.basis.store ≡ store.now → IfOk result (λ _. LeadsFrom
         O.OpenStores store.now h.basis.agreed.agreements (O.Opened.shows records).IsClean
         (O.Opened.shows records).Rests stores.new)) }
+    ensures counted { O.opens stores.new ≡ O.opens stores.old }
     ensures none { IfErr held (λ _. result ≡ Err CannotListen) }
 {
     match held {

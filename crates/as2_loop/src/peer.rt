@@ -40,6 +40,8 @@ pub(crate) struct Peer {
     pub began: u64,
     /// When bytes last came or went, in milliseconds.
     pub moved: u64,
+    /// Up to when its bytes would have come at the least pace, in milliseconds.
+    pub paced: u64,
 }
 
 impl Peer {
@@ -54,6 +56,7 @@ impl Peer {
             phase: Phase::Serving,
             began: now,
             moved: now,
+            paced: now,
         }
     }
 

@@ -2,11 +2,11 @@
 
 ghost use Rattle.as2_live.specs.Living.{LivesOn};
 
-use crate::bounds::{READS, Waits};
+use crate::bounds::{BYTES_OF_ONE, PACE, READS, Waits};
 use crate::peer::{Peer, Phase, Under};
 use as2_hub::Hub;
 use as2_live::Live;
-use as2_records::{Records, Rounds};
+use as2_records::Rounds;
 use std::io::{ErrorKind, Read, Write};
 use std::net::Shutdown;
 
@@ -33,7 +33,7 @@ pub(crate) enum Fate {
 }
 
 /// Reads once, where there may be something and there is room for it. None where it may be read again.
-fn read_once<K: Records>(
+fn read_once<K: Rounds>(
     live: &mut Live<'_, K>,
     at: usize,
     peer: &mut Peer,
@@ -42,8 +42,11 @@ fn read_once<K: Records>(
 ) -> Option<Went>
     ensures lives { LivesOn K.shows live.old live.new }
 {
+    if !peer.may_read || peer.is_read_out {
+        return Some(Went::On);
+    }
     let room = live.hub().room(at).min(buffer.len());
-    if !peer.may_read || peer.is_read_out || room == 0 {
+    if room == 0 {
         return Some(Went::On);
     }
     match peer.stream.read(&mut buffer[..room]) {
@@ -51,8 +54,10 @@ fn read_once<K: Records>(
         Ok(count) => {
             if live.hub().unanswered(at) == 0 {
                 peer.began = now;
+                peer.paced = now;
             }
             peer.moved = now;
+            peer.paced = peer.paced.saturating_add(count as u64 / PACE).min(now);
             live.hear(at, &buffer[..count]);
             // (what came later tells it by an event of its own)
             peer.may_read = count == room || peer.has_shut;
@@ -65,7 +70,7 @@ fn read_once<K: Records>(
 }
 
 /// Reads what came, as far as there is room for it.
-pub(crate) fn read<K: Records>(
+pub(crate) fn read<K: Rounds>(
     live: &mut Live<'_, K>,
     at: usize,
     peer: &mut Peer,
@@ -147,7 +152,7 @@ fn begin_to_end(peer: &mut Peer, now: u64) -> Fate {
     Fate::Again
 }
 
-/// What is to become of a connection behind a turn.
+/// What is to become of a connection after a turn.
 pub(crate) fn fate_of(hub: &Hub, at: usize, peer: &mut Peer, buffer: &mut [u8], now: u64) -> Fate {
     if peer.phase == Phase::Ending {
         return throw_away(peer, buffer);
@@ -166,6 +171,10 @@ pub(crate) fn fate_of(hub: &Hub, at: usize, peer: &mut Peer, buffer: &mut [u8], 
         return begin_to_end(peer, now);
     }
     if peer.is_read_out {
+        return Fate::Closes;
+    }
+    if hub.unanswered(at) >= BYTES_OF_ONE {
+        // (no request of that length becomes whole)
         return Fate::Closes;
     }
     if hub.room(at) == 0 {

@@ -5,7 +5,7 @@ ghost use Rattle.as2_loop.specs.Running.{CommitsTo, RunsOn, RunsTo, SettlesTo};
 
 use crate::bounds::{
     ACCEPTS, ALONE, BYTES_OF_ALL, BYTES_OF_ONE, CONNECTIONS, CROWDED_IDLE, LOOK, PIECE, READS,
-    REQUESTS, STOP, Waits,
+    REQUESTS, SHORT_IDLE, SHORT_LOOK, STOP, Waits,
 };
 use crate::clock::{Moments, Watch};
 use crate::commands::{Attended, Basis, attend};
@@ -76,15 +76,29 @@ pub(crate) const BOUNDS: Bounds = Bounds {
     requests: REQUESTS,
 };
 
-/// The connections that may become ready for an answer, up to what one round takes.
-fn ready_among(alloc: Global, hub: &Hub, places: &[usize]) -> io::Result<Vec<usize>> {
+/// The places that are looked at in a turn.
+#[derive(Drop)]
+struct Parted {
+    /// Those whose next request is answered in the turn's round.
+    ready: Vec<usize>,
+    /// All of them, those that aren't answered first. The next turn looks at them in this order, so that nobody who waits is overtaken by
+    /// one who was answered.
+    order: Vec<usize>,
+}
+
+/// Parts these places: of the first that are ready, as many as one round takes, a request is answered.
+fn parted(alloc: Global, hub: &Hub, places: &[usize]) -> io::Result<Parted> {
     let mut ready = Vec::new(alloc);
+    let mut order = Vec::new(alloc);
     for at in places {
         if ready.len() < REQUESTS && hub.is_ready(*at) {
             ready.push(*at)?;
+        } else {
+            order.push(*at)?;
         }
     }
-    Ok(ready)
+    order.extend_from_slice(&ready)?;
+    Ok(Parted { ready, order })
 }
 
 /// Notes how many documents a tick gave up, where it gave up one.
@@ -233,10 +247,20 @@ impl Shell {
         if self.is_freed && self.door.is_open(now) {
             return 0;
         }
-        let look = self.looked.saturating_add(LOOK).saturating_sub(now);
+        let look = self.next_look().saturating_sub(now);
         let end = self.end.unwrap_or(u64::MAX).saturating_sub(now);
         let door = self.door.wait(now).unwrap_or(u64::MAX);
         look.min(end).min(door)
+    }
+
+    /// When the limits are looked at next, in milliseconds.
+    fn next_look(&self) -> u64 {
+        let every = if self.door.is_short {
+            SHORT_LOOK
+        } else {
+            LOOK
+        };
+        self.looked.saturating_add(every)
     }
 
     /// Waits until something happens. A wait that was interrupted is begun anew, so that what came is read before any time is over.
@@ -252,8 +276,8 @@ impl Shell {
         self.watch.read(&self.rt)
     }
 
-    /// One turn: what came is read, what waits is answered, and what is due begins. All of that is committed, and only then is a reply
-    /// written. Or it couldn't be committed, and that round is given back.
+    /// One turn: what came is read, what waits is answered, and what is due begins. All of that is committed, and only then are its lines
+    /// and its replies written. Or it couldn't be committed, and that round is given back.
     fn turn<'b, K: Rounds + Drop>(
         &mut self,
         basis: &'b Basis,
@@ -264,11 +288,12 @@ impl Shell {
     {
         let mut live = live;
         let places = self.take_in(&mut live, events)?;
-        let ready = ready_among(self.rt.alloc(), live.hub(), &places)?;
+        let Parted { ready, order } = parted(self.rt.alloc(), live.hub(), &places)?;
         match self.settle(basis, live, &ready) {
             Ok(settled) => {
                 let mut settled = settled;
-                self.go_on_all(&mut settled, &places)?;
+                self.tell(basis);
+                self.go_on_all(&mut settled, &order)?;
                 Ok(Ok(settled))
             }
             Err(round) => Ok(Err(round)),
@@ -366,7 +391,7 @@ impl Shell {
     }
 
     /// Reads what came at these places.
-    fn read_all<K: Records>(&mut self, live: &mut Live<'_, K>, places: &[usize])
+    fn read_all<K: Rounds>(&mut self, live: &mut Live<'_, K>, places: &[usize])
         ensures lives { LivesOn K.shows live.old live.new }
     {
         for at in places {
@@ -437,7 +462,7 @@ impl Shell {
     }
 
     /// Accepts who waits, as far as there are places.
-    fn accept_all<K: Records>(&mut self, live: &mut Live<'_, K>) -> io::Result<()>
+    fn accept_all<K: Rounds>(&mut self, live: &mut Live<'_, K>) -> io::Result<()>
         ensures lives { LivesOn K.shows live.old live.new }
     {
         self.is_freed = false;
@@ -467,7 +492,7 @@ impl Shell {
     }
 
     /// Reads what came at a place.
-    fn read_at<K: Records>(&mut self, live: &mut Live<'_, K>, at: usize)
+    fn read_at<K: Rounds>(&mut self, live: &mut Live<'_, K>, at: usize)
         ensures lives { LivesOn K.shows live.old live.new }
     {
         let Some(Some(peer)) = self.peers.get_mut(at) else {
@@ -497,14 +522,17 @@ impl Shell {
         match fate {
             Fate::Again => self.turns.add(at)?,
             Fate::Waits => {}
-            Fate::Stuck => self.is_full = true,
+            Fate::Stuck => {
+                self.is_full = true;
+                self.turns.add(at)?;
+            }
             Fate::Closes => self.close(live, at),
         }
         Ok(())
     }
 
     /// Attends to who asks at the control socket: one command a turn.
-    fn attend<'b, R: Records + Drop, O: OpenStores>(
+    fn attend<'b, R: Rounds + Drop, O: OpenStores>(
         &mut self,
         basis: &'b Basis,
         stores: &O,
@@ -598,18 +626,18 @@ impl Shell {
         }
     }
 
-    /// Once in a while lets time pass: gives up documents whose time is over, closes the connections whose time is over, and has those
-    /// looked at that had no room.
-    fn look<K: Records>(&mut self, basis: &Basis, live: &mut Live<'_, K>) -> io::Result<()>
+    /// Gives room to those who have none, and once in a while lets time pass: gives up documents whose time is over, and closes the
+    /// connections whose time is over.
+    fn look<K: Rounds>(&mut self, basis: &Basis, live: &mut Live<'_, K>) -> io::Result<()>
         ensures lives { LivesOn K.shows live.old live.new }
     {
         let now = self.watch.now;
-        if now < self.looked.saturating_add(LOOK) {
+        self.give_room(basis, live);
+        if now < self.next_look() {
             return Ok(());
         }
         self.looked = now;
         self.mark_crowd(basis, live.hub(), now);
-        self.give_room(basis, live);
         self.look_at_all(basis, live)?;
         self.sender.look(now);
         let said = live.tick(self.moments.now());
@@ -646,24 +674,24 @@ impl Shell {
         basis.log.add(b"store open");
     }
 
-    /// The place whose request began first, among those that aren't whole.
-    fn oldest(&self, hub: &Hub) -> Option<usize> {
-        let mut oldest = None;
+    /// The place whose request is furthest behind the least pace, among those that aren't whole and take room.
+    fn slowest(&self, hub: &Hub) -> Option<usize> {
+        let mut slowest = None;
         let mut first = u64::MAX;
         for at in 0..CONNECTIONS {
             if let Some(Some(peer)) = self.peers.get(at) {
-                let is_part = hub.unanswered(at) > 0 && !hub.is_ready(at);
-                if is_part && peer.began < first {
-                    first = peer.began;
-                    oldest = Some(at);
+                let is_part = hub.unanswered(at) >= PIECE && !hub.is_ready(at);
+                if is_part && peer.paced < first {
+                    first = peer.paced;
+                    slowest = Some(at);
                 }
             }
         }
-        oldest
+        slowest
     }
 
     /// Looks at each place.
-    fn look_at_all<K: Records>(&mut self, basis: &Basis, live: &mut Live<'_, K>) -> io::Result<()>
+    fn look_at_all<K: Rounds>(&mut self, basis: &Basis, live: &mut Live<'_, K>) -> io::Result<()>
         ensures lives { LivesOn K.shows live.old live.new }
     {
         for at in 0..CONNECTIONS {
@@ -672,24 +700,31 @@ impl Shell {
         Ok(())
     }
 
-    /// Looks whether all places are taken and somebody may wait for one, and notes where it becomes so.
+    /// Looks whether somebody waits who can't be accepted, since all places are taken or the system has no descriptor to give. Notes when
+    /// that begins.
     fn mark_crowd(&mut self, basis: &Basis, hub: &Hub, now: u64) {
-        let is_crowded = self.door.is_open(now) && hub.free_place().is_none();
+        let is_taken = self.door.is_open(now) && hub.free_place().is_none();
+        let is_crowded = is_taken || self.door.is_short;
         if is_crowded && !self.is_crowded {
-            basis.log.add(b"crowded - all connections are taken");
+            let line: &[u8] = if is_taken {
+                b"crowded - all connections are taken"
+            } else {
+                b"crowded - the system has no descriptor to give"
+            };
+            basis.log.add(line);
         }
         self.is_crowded = is_crowded;
     }
 
-    /// Gives up the request that began first, where others have no room.
-    fn give_room<K: Records>(&mut self, basis: &Basis, live: &mut Live<'_, K>)
+    /// Gives up the slowest request, if others have no room: a slow one holds its bytes for long, whoever sends it.
+    fn give_room<K: Rounds>(&mut self, basis: &Basis, live: &mut Live<'_, K>)
         ensures lives { LivesOn K.shows live.old live.new }
     {
         if !self.is_full {
             return;
         }
         self.is_full = false;
-        if let Some(at) = self.oldest(live.hub()) {
+        if let Some(at) = self.slowest(live.hub()) {
             basis.log.add(b"closed - to give room");
             self.close(live, at);
         }
@@ -697,12 +732,17 @@ impl Shell {
 
     /// Whether the place of a connection is wanted that waits for a request, and at which bytes came or went last at that time.
     fn is_wanted(&self, moved: u64) -> bool {
-        let is_long = moved.saturating_add(CROWDED_IDLE) <= self.watch.now;
+        let idle = if self.door.is_short {
+            SHORT_IDLE
+        } else {
+            CROWDED_IDLE
+        };
+        let is_long = moved.saturating_add(idle) <= self.watch.now;
         self.end.is_some() || (self.is_crowded && is_long)
     }
 
     /// The same at one place.
-    fn look_at<K: Records>(
+    fn look_at<K: Rounds>(
         &mut self,
         basis: &Basis,
         live: &mut Live<'_, K>,
@@ -720,7 +760,7 @@ impl Shell {
         if is_over && is_under_way {
             basis.log.add(b"closed - its time was over");
         }
-        if is_over || (is_between && self.is_wanted(moved)) {
+        if is_over || (is_between && !may_read && self.is_wanted(moved)) {
             self.close(live, at);
             return Ok(());
         }

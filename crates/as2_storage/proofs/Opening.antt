@@ -22,7 +22,7 @@ use Rattle.as2_store.specs.Migrating.{RestsAs}
 use Rattle.as2_store.specs.Stands.{IsWhole, Rests, Stands}
 use Rattle.as2_store.specs.Tables.{Layout, VersionThree, schema_of}
 use Rattle.as2_store.proofs.Committing.{keeps_of}
-use Rattle.as2_storage.specs.Files.{AreClosed, HoldsAs}
+use Rattle.as2_storage.specs.Files.{AreClosed, HoldsAs, IsSettledFrom}
 
 -- ---- an open
 
@@ -80,3 +80,27 @@ closed c files s it r =
       seen = record { both = (trees, it.seen.both, keeps); alone = (trees, it.seen.alone, keeps) };
       left = λ image may. let found = it.left image may in record { both = (trees, found.both, keeps); alone = (trees, found.alone, keeps) };
     }
+
+-- ---- a store whose log was copied into its file
+
+module _ {D : Type 0} {g : disk.Ghosts D} (before after : Held (FileStore D g)) (it : IsSettledFrom g before after) where
+  same_trees : (file_state after).committed.trees ≡ (file_state before).committed.trees
+  same_trees = ∥∥₁_elim it.copied.seen.both (Trees-set _ _) (it.finds.holds (file_state before).committed.trees)
+
+  module _ (opens : Opens (file_state after)) (live : IsLive (file_state after)) where
+    pub settled_rests : (s : State) → Rests (file_state before) s → Rests (file_state after) s
+    settled_rests s r =
+        let keeps = kept (file_state before) s it.copied.was_open r in
+        rests_kept (file_state after) s opens live (subst (λ (db : Trees). Keeps db s) (sym same_trees) keeps)
+
+    pub settled_as : (layout : Layout) (s : State) → RestsAs layout (file_state before) s → RestsAs layout (file_state after) s
+    settled_as layout s r =
+        let stood = r.stands it.copied.was_open in
+        let d = (file_state before).now in
+        let whole : d ≡ record { schema = schema_of layout; trees = d.trees } =
+        ap (λ (x : Schema). let e : Database = record { schema = x; trees = d.trees } in e) stood.schema in
+        let trees : d.trees ≡ (file_state after).committed.trees =
+        sym (same_trees ∙ ap (λ (e : Database). e.trees) (r.committed it.copied.was_open)) in
+        rests_as layout (file_state after) s opens live
+        (subst (λ (t : Trees). Stands layout (record { schema = schema_of layout; trees = t }) s) trees
+        (subst (λ (e : Database). Stands layout e s) whole stood))

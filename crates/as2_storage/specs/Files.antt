@@ -7,7 +7,8 @@ use Rattle.sqlite_wal.specs.Recovery.{Image}
 use Rattle.sqlite_store.specs.FileStore.{is_shielded, files as store_files}
 use Rattle.sqlite_store.specs.declared.store.FileStore.{FileStore}
 use Rattle.sqlite_trees.specs.Tree.{Trees}
-use Rattle.sqlite.specs.Files.{HoldsDatabase, IsClosed, image_of}
+use Rattle.sqlite.specs.Closing.{IsCopied}
+use Rattle.sqlite.specs.Files.{Finds, HoldsDatabase, IsClosed, image_of}
 use Rattle.sqlite.specs.Held.{Held}
 use Rattle.as2_exchange.specs.State.{State}
 use Rattle.as2_store.specs.Files.{HoldsState}
@@ -37,3 +38,14 @@ pub record HoldsAs (layout : Layout) (image : Image) (s : State) : Type 0 where
   pub db : Trees
   pub held : ∥ HoldsDatabase image db ∥₁
   pub stands : Stands layout (record { schema = schema_of layout; trees = db }) s
+
+-- What was committed over the one connection was copied into its database file, down to the disk, and the other has opened on these very
+-- files.
+pub record IsSettledFrom {D : Type 0} (g : Ghosts D) (before after : Held (FileStore D g)) : Type 0 where
+  pub files : Files D
+  pub copied : IsCopied before files
+  pub finds : Finds files after
+
+-- the same, whichever connection it was
+abbrev pub IsSettled : {D : Type 0} → (g : Ghosts D) → Held (FileStore D g) → Type 0
+IsSettled {D} g after = (before : Held (FileStore D g)) × IsSettledFrom g before after

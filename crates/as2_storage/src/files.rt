@@ -9,11 +9,14 @@ ghost use Rattle.sqlite_wal.specs.Files.{image_at};
 ghost use Rattle.sqlite_wal.specs.Reads.{AreClean};
 ghost use Rattle.as2_exchange.specs.State.{State};
 ghost use Rattle.as2_store.specs.Files.{HoldsState};
+ghost use Rattle.as2_store.specs.Migrating.{RestsAs};
 ghost use Rattle.as2_store.specs.Stands.{Rests};
-ghost use Rattle.as2_storage.specs.Files.{AreClosed, AreLeftBy, AreShielded};
+ghost use Rattle.as2_store.specs.Tables.{Layout};
+ghost use Rattle.as2_storage.specs.Files.{AreClosed, AreLeftBy, AreShielded, IsSettledFrom};
 
-use sqlite::{Connection, Error, FileFrom, FileStore, Start};
+use sqlite::{Connection, Error, FileFrom, FileStore, Options, Start};
 use sqlite_disk::{Disk, Files};
+use std::alloc::Global;
 
 /// Opens the two files at a path, and makes those that are missing, whose pages have sums then. `start` stands for what they hold as
 /// they are opened, which no code can read: where that is a state of a store, the connection stands for it. That the path leads to
@@ -62,4 +65,29 @@ pub fn let_go<D: Disk + Drop>(conn: Connection<FileStore<D>>) -> Files<D>
     ensures unclosed { AreClean D.Disk result.log result.db → HasCleanDisk (file_state conn) }
 {
     conn.into_store().close()
+}
+
+/// Copies what the log of a store holds into its database file, down to the disk, and opens the two files again: so what the store
+/// stands for no longer rests on a log that was found. A system may show bytes of a log whose sync has failed, and never write them.
+/// When that copy fails, the files are let go, and the error is told.
+pub fn settle<D: Disk + Drop>(
+    alloc: Global,
+    conn: Connection<FileStore<D>>,
+    options: Options,
+) -> Result<Connection<FileStore<D>>, Error>
+    ensures autocommit { IfOk result (λ c. c.in_transaction ≡ false) }
+    ensures settled { IfOk result (λ c. HasCleanDisk (file_state c) → IsSettledFrom D.Disk conn c) }
+    ensures same { IfOk result (λ c. HasCleanDisk (file_state c) → (s : State) → Rests (file_state conn) s → Rests (file_state c) s) }
+    ensures any_version { IfOk result (λ c. HasCleanDisk (file_state c) → (layout : Layout) (s : State)
+        → RestsAs layout (file_state conn) s → RestsAs layout (file_state c) s) }
+    ensures guarded { IfOk result (λ c. HasCleanDisk (file_state c) → (file_state c).IsShielded) }
+{
+    let files = match conn.close_files() {
+        Ok(files) => files,
+        Err((error, _)) => return Err(error),
+    };
+    match Connection::open_files_with(alloc, files, options, true) {
+        Ok(conn) => Ok(conn),
+        Err((error, _)) => Err(error),
+    }
 }

@@ -3,4 +3,4 @@
 
 mod files;
 
-pub use files::{close, let_go, open_at};
+pub use files::{close, let_go, open_at, settle};

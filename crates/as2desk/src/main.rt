@@ -4,7 +4,7 @@
 ghost use Rattle.as2_http.specs.Devices.{OpensLedger};
 
 use as2_audit::Watch;
-use as2_client::ask_station;
+use as2_client::{absent_store, ask_station, hint_made};
 use as2_connections::{ProgressLine, Sockets, clock};
 use as2_desk::{Console, Host, Outside};
 use as2_files::{FileSystem, InFiles, KeepFiles, OpenFiles, StoreFiles, SystemFiles};
@@ -67,7 +67,9 @@ fn run_words<O: OpenRounds, R: Source, W: Sink, H: Write + Journal + CountsBusy 
         Spanned::Stopped(held) => Came::Stopped(held),
         Spanned::Shut(held) => Came::Shut(held),
         Spanned::Elsewhere => {
+            let absent = absent_store(rt, words, clock);
             let ran = as2_desk::run(rt.alloc(), words, clock, host, console);
+            hint_made(rt, absent);
             Came::Ended(ran.status)
         }
     }

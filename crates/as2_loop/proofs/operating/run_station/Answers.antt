@@ -7,7 +7,7 @@ use Rattle.as2_loop.specs.declared.operating.Held.{Held}
 use Rattle.as2_loop.specs.declared.operating.Spanned.TheVariants.{Elsewhere}
 use Rattle.as2_loop.proofs.Stores.{began, gone_on, none_run, opened_before}
 use Rattle.as2_loop.proofs.operating.run_station.Goals as goal
-use Rattle.std.proofs.Common.{subst}
+use Rattle.std.proofs.Common.{◌∙◌, subst}
 
 pub returns-in_default-clause-goes_on : goal.returns-in_default-clause-goes_on
 returns-in_default-clause-goes_on g c =
@@ -40,5 +40,6 @@ returns-clause-begins g c none has =
       opens = c.in-Ok-agreed_text.ensures.agreed;
       leads = opened_before g.O.OpenStores shows path new agreed.agreements c.in-Operate.run'.first c.args.host.now.stores c.in-Ok-opened.records
           c.in-Ok-opened.ensures.clean c.in-Ok-opened.ensures.found it.0;
+      counted = c.begin-came.ensures.counted ∙ c.in-Ok-opened.ensures.counted;
       behind = it.1;
     }

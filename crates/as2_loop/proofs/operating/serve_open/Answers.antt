@@ -14,4 +14,4 @@ returns-in-Ok-clause-leads g c text =
     c.args.held.basis c.holding.result left c.holding.ensures
     (subst (λ (h : g.row.O-Holding.Denot). LeadsLeft holds in_round c.args.held.basis h left) c.bounded-records.ensures (c.in-Ok.ensures.over text))
     (subst (λ (p : List ℕ). KeepsLeft g.O.OpenStores holds in_round p left c.close_left.new.stores)
-    (c.as_str.ensures.value ∙ ap (λ (b : Basis). string_bytes b.store) c.in-Ok.ensures.basis) c.close_left.ensures)
+    (c.as_str.ensures.value ∙ ap (λ (b : Basis). string_bytes b.store) c.in-Ok.ensures.basis) c.close_left.ensures.kept)

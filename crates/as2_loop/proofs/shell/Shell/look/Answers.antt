@@ -1,8 +1,8 @@
-use Rattle.as2_live.proofs.Going.{on_none, on_then}
+use Rattle.as2_live.proofs.Going.{on_then}
 use Rattle.as2_loop.proofs.shell.Shell.look.Goals as goal
 
-pub returns-then-now-saturating_add : goal.returns-then-now-saturating_add
-returns-then-now-saturating_add g c = record { lives = on_none g.K.Records.shows c.args.live.now }
+pub returns-then-now-next_look : goal.returns-then-now-next_look
+returns-then-now-next_look g c = record { lives = c.give_room.ensures.lives }
 
 pub returns-in_err-look_at_all : goal.returns-in_err-look_at_all
 returns-in_err-look_at_all g c = record {
