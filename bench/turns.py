@@ -58,7 +58,8 @@ def measure(given):
     programs = {"program": given.program, "beside": given.beside} if given.beside else {"program": given.program}
     for role, program in programs.items():
         print(f"{role}: {version(program)}")
-    print(f"Honest posts in {given.rounds} rounds of {2 * given.seconds:g} s, half of them over new connections; one without an answer counts as {given.most:g} s")
+    print(f"Honest posts in {given.rounds} rounds of {2 * given.seconds:g} s, half of these over new connections; "
+          f"one without an answer counts as {given.most:g} s")
     print(f"{'pipelining clients':20} {'':28} {'posts':>7} {'middle in ms':>12} {'99th percentile':>16} {'not answered':>13}")
     places = itertools.count()
     for count, kind in settings(given):

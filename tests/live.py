@@ -27,6 +27,7 @@
     bodies     slow bodies that fill the room for bytes: small and great honest documents beside them are answered in time
     descriptors  few descriptors, and idle peers that take them all: honest posts and a command are done in time
     askers     slow clients at all seats of the control socket: a command and `stop` are done in time
+    extensions a body whose extensions of chunks pass the bytes of one connection: it is over with it, and with nobody else
     replies    the requests of corpus/, of hostile clients and mutated ones, to `run` and to `serve`: the same replies; curl and http.client
 
 Without a CASE all are tried. Each prints a line, and one before it for each thing that isn't as wanted; the status is 1 where there is one.
@@ -65,7 +66,7 @@ CASES = {
     "commands": asking.commands, "two": doors.two, "control": doors.control, "stop": stopping.stop, "lines": stopping.lines,
     "memory": lasting.memory, "lost": losing.lost, "replies": replies.replies, "sending": sending.sending, "sending-kills": cutting.sending_kills, "silent": sending.silent,
     "links": sending.links, "gone": sending.gone, "receipts-to": sending.receipts_to, "halts": sending.halts, "latency": sending.latency,
-    "pipelining": turns.pipelining, "bodies": shortage.bodies, "descriptors": shortage.descriptors, "askers": shortage.askers,
+    "pipelining": turns.pipelining, "bodies": shortage.bodies, "descriptors": shortage.descriptors, "askers": shortage.askers, "extensions": shortage.extensions,
 }
 
 

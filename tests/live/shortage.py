@@ -23,6 +23,7 @@ CALM = 2 * GREAT  # so few bytes move in half a second once a station has no roo
 SIZES = (3_000, 700_000)  # of honest documents
 MIDDLE = 0.75  # seconds that half of the honest posts may wait at most beside slow bodies, on a slow machine too
 DEMAND = OPENING + (2_000_000).to_bytes(4, "big")  # the head of a demand that never becomes whole
+EXTENDED = (b"1;" + b"e" * 1_000 + b"\r\nx\r\n") * 1_000  # chunks of a byte, with long extensions: a MB
 SEATS = 16  # of the control socket
 REQUEST = ASKED[:ASKED.index(b"\r\n\r\n") + 4]
 
@@ -228,3 +229,43 @@ def askers(given, folder, differences):
         halt(process)
         differences.expect("askers: it stops", until(lambda: not station.is_running(), 10 + given.slack), True)
     return f"beside {SEATS} that send a byte a second " + ", ".join(told)
+
+
+def flood(station, text):
+    """Sends that text over and over until nothing more is taken; whether the connection is then ended or answered in time."""
+    link = socket.create_connection(station.address, timeout=IN_TIME)
+    try:
+        link.sendall(HEAD + b"Transfer-Encoding: chunked\r\n\r\n")
+        for _ in range(20):
+            link.sendall(text)
+    except OSError:
+        pass
+    try:
+        link.recv(65536)
+    except socket.timeout:
+        return False
+    except OSError:
+        pass
+    return True
+
+
+def extensions(given, folder, differences):
+    """A body whose extensions of chunks pass the bytes that one connection may hold: it is over with it, and with nobody else."""
+    began = HEAD + b"Content-Length: 3\r\n\r\na"
+    with Running(Desk(given.program, folder)) as station:
+        honest = [socket.create_connection(station.address, timeout=running.PATIENCE) for _ in range(3)]
+        for link in honest:
+            link.sendall(began)
+        time.sleep(0.5)  # theirs began first
+        is_over = flood(station, EXTENDED)
+        time.sleep(IN_TIME + given.slack)
+        answered = 0
+        for link in honest:
+            try:
+                link.sendall(b"bc")
+                answered += link.recv(65536).startswith(b"HTTP/1.1 200")
+            except OSError:
+                pass
+        differences.expect("extensions: it is over with the one that sends them", is_over, True)
+        differences.expect("extensions: those whose requests began before are answered", answered, len(honest))
+    return f"{answered} of {len(honest)} others are answered"
