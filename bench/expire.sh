@@ -6,8 +6,9 @@
 set -eu
 . "$(dirname "$0")/workspace.sh"
 
-workspace sql_tables as2_names as2_media as2_parts as2_text as2_mic as2_mdn as2_agreement as2_exchange as2_posts as2_rows as2_store as2_station
-echo "expire_bench: as2_names as2_mic as2_agreement as2_exchange as2_store as2_station sqlite" >> "$work/crates.txt"
+workspace sql_tables as2_names as2_media as2_parts as2_text as2_mic as2_mdn as2_agreement as2_exchange as2_posts as2_records as2_audit as2_rows as2_views as2_json \
+    as2_store as2_kept as2_station
+echo "expire_bench: as2_text as2_mic as2_agreement as2_exchange as2_records as2_kept as2_station sqlite" >> "$work/crates.txt"
 mkdir -p "$work/crates/expire_bench/src"
 cat > "$work/crates/expire_bench/src/main.rt" <<'PROGRAM'
 //! Makes a store of so many documents in the file that the arguments name, and prints what Ticks and posts take over it. The
@@ -18,10 +19,11 @@ ghost use Rattle.std.specs.Prelude.{◌≡◌, false};
 
 use as2_agreement::Agreements;
 use as2_exchange::{Answer, Event};
+use as2_kept::{adopt, create};
 use as2_mic::{Alg, Pieces, mic_of};
-use as2_names::{Head, Moment};
+use as2_records::Records;
 use as2_station::Station;
-use as2_store::Store;
+use as2_text::{Head, Moment};
 use sqlite::{Alter, Connection, Transaction, params};
 use std::alloc::Global;
 use std::env;
@@ -145,9 +147,9 @@ fn receipt(alloc: Global, number: u64) -> Option<(Head, Pieces)> {
 }
 
 /// The quickest of the Ticks from this moment on, in nanoseconds, if each tells of so many documents.
-fn quickest_tick<S: Alter>(
+fn quickest_tick<R: Records>(
     rt: &HostRuntime,
-    station: &mut Station<S>,
+    station: &mut Station<R>,
     agreements: &Agreements,
     first: u64,
     overdue: u64,
@@ -173,9 +175,9 @@ fn quickest_tick<S: Alter>(
 }
 
 /// What the posts of receipts for the documents below this number take, in nanoseconds, if each is taken.
-fn posts<S: Alter>(
+fn posts<R: Records>(
     rt: &HostRuntime,
-    station: &mut Station<S>,
+    station: &mut Station<R>,
     agreements: &Agreements,
     end: u64,
 ) -> io::Result<Option<u128>> {
@@ -203,9 +205,9 @@ fn posts<S: Alter>(
 }
 
 /// Measures a station whose documents have the numbers up to this.
-fn measure<S: Alter>(
+fn measure<R: Records>(
     rt: &HostRuntime,
-    station: &mut Station<S>,
+    station: &mut Station<R>,
     agreements: &Agreements,
     size: u64,
 ) -> io::Result<()> {
@@ -251,15 +253,18 @@ fn main(rt: HostRuntime) -> io::Result<()> {
     if !conn.is_autocommit() {
         return Ok(());
     }
-    let Ok(store) = Store::create(conn, 1) else {
+    let Ok(kept) = create(conn, 1) else {
         return Ok(());
     };
-    let mut conn = store.into_connection();
-    if fill(rt.alloc(), &mut conn, size).is_none() || !conn.is_autocommit() {
+    let mut conn = kept.into_connection();
+    if !conn.is_autocommit() || fill(rt.alloc(), &mut conn, size).is_none() {
         return Ok(());
     }
-    if let Ok(store) = Store::adopt(conn) {
-        measure(&rt, &mut Station::new(store), &agreements, size)?;
+    if !conn.is_autocommit() {
+        return Ok(());
+    }
+    if let Ok(kept) = adopt(conn) {
+        measure(&rt, &mut Station::new(kept), &agreements, size)?;
     }
     Ok(())
 }

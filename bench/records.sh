@@ -7,8 +7,8 @@
 set -eu
 . "$(dirname "$0")/workspace.sh"
 
-workspace sql_tables as2_names as2_media as2_parts as2_text as2_mic as2_mdn as2_agreement as2_exchange as2_posts as2_rows as2_store
-echo "records_bench: as2_names as2_media as2_mic as2_exchange as2_posts as2_store sqlite" >> "$work/crates.txt"
+workspace sql_tables as2_names as2_media as2_parts as2_text as2_mic as2_mdn as2_agreement as2_exchange as2_posts as2_records as2_rows as2_store
+echo "records_bench: as2_text as2_mic as2_exchange as2_posts as2_store sqlite" >> "$work/crates.txt"
 mkdir -p "$work/crates/records_bench/src"
 cat > "$work/crates/records_bench/src/main.rt" <<'PROGRAM'
 //! Fills a store, in memory or in the file that the argument names, and prints how long the last thousand entries took to
@@ -18,11 +18,10 @@ cat > "$work/crates/records_bench/src/main.rt" <<'PROGRAM'
 ghost use Rattle.std.specs.Prelude.{◌≡◌, false};
 
 use as2_exchange::{InEntry, StoreFault};
-use as2_media::MediaType;
 use as2_mic::Pieces;
-use as2_names::{AsName, Head, Moment};
 use as2_posts::{Opened, document, first_entry};
 use as2_store::Store;
+use as2_text::{AsName, Head, MediaType, Moment};
 use sqlite::{Alter, Connection};
 use std::alloc::Global;
 use std::env;

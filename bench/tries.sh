@@ -10,8 +10,9 @@
 set -eu
 . "$(dirname "$0")/workspace.sh"
 
-workspace sql_tables as2_names as2_media as2_parts as2_text as2_mic as2_mdn as2_agreement as2_exchange as2_posts as2_rows as2_store as2_station
-echo "tries_bench: as2_names as2_mic as2_mdn as2_agreement as2_exchange as2_store as2_station sqlite" >> "$work/crates.txt"
+workspace sql_tables as2_names as2_media as2_parts as2_text as2_mic as2_mdn as2_agreement as2_exchange as2_posts as2_records as2_audit as2_rows as2_views as2_json \
+    as2_store as2_kept as2_station
+echo "tries_bench: as2_text as2_mic as2_mdn as2_agreement as2_exchange as2_kept as2_station sqlite" >> "$work/crates.txt"
 mkdir -p "$work/crates/tries_bench/src"
 cat > "$work/crates/tries_bench/src/main.rt" <<'PROGRAM'
 //! A station in memory, or over the file that the argument names. It takes its steps one for each byte of standard input,
@@ -23,11 +24,11 @@ ghost use Rattle.std.specs.Prelude.{◌≡◌, false};
 
 use as2_agreement::Agreements;
 use as2_exchange::{Answer, Event, Next, TryAnswer};
+use as2_kept::{Kept, create};
 use as2_mdn::Detail;
 use as2_mic::{Alg, MicText, Pieces, mic_of};
-use as2_names::{AsName, Head, Moment};
 use as2_station::Station;
-use as2_store::Store;
+use as2_text::{AsName, Head, Moment};
 use sqlite::{Alter, Connection};
 use std::alloc::Global;
 use std::env;
@@ -129,7 +130,7 @@ const NOTHING: Turn = Turn {
 struct Desk<S: Alter> {
     alloc: Global,
     agreements: Agreements,
-    station: Station<S>,
+    station: Station<Kept<S>>,
     mic: MicText,
 }
 
@@ -273,11 +274,11 @@ fn run<S: Alter + Drop>(rt: &HostRuntime, conn: Connection<S>) -> io::Result<()>
     let Ok(agreements) = Agreements::read(rt.alloc(), AGREEMENTS) else {
         return Ok(());
     };
-    if let Ok(store) = Store::create(conn, 1) {
+    if let Ok(kept) = create(conn, 1) {
         let mut desk = Desk {
             alloc: rt.alloc(),
             agreements,
-            station: Station::new(store),
+            station: Station::new(kept),
             mic: mic_of(Alg::Sha1, &CONTENT),
         };
         measure(rt, &mut desk)?;

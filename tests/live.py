@@ -23,6 +23,11 @@
     receipts-to  `--receipts-to`: a receipt goes to no other address
     halts      `stop` while links are open; the next station tries again what was under way
     latency    from `submit` to the first byte at the partner
+    pipelining clients that pipeline, and read the replies or don't: each honest post beside them is answered in time
+    bodies     slow bodies that fill the room for bytes: small and great honest documents beside them are answered in time
+    descriptors  few descriptors, and idle peers that take them all: honest posts and a command are done in time
+    askers     slow clients at all seats of the control socket: a command and `stop` are done in time
+    extensions a body whose extensions of chunks pass the bytes of one connection: it is over with it, and with nobody else
     replies    the requests of corpus/, of hostile clients and mutated ones, to `run` and to `serve`: the same replies; curl and http.client
 
 Without a CASE all are tried. Each prints a line, and one before it for each thing that isn't as wanted; the status is 1 where there is one.
@@ -50,8 +55,10 @@ import many
 import replies
 import running
 import sending
+import shortage
 import slow
 import stopping
+import turns
 from station import STARTER, Differences
 
 CASES = {
@@ -59,6 +66,7 @@ CASES = {
     "commands": asking.commands, "two": doors.two, "control": doors.control, "stop": stopping.stop, "lines": stopping.lines,
     "memory": lasting.memory, "lost": losing.lost, "replies": replies.replies, "sending": sending.sending, "sending-kills": cutting.sending_kills, "silent": sending.silent,
     "links": sending.links, "gone": sending.gone, "receipts-to": sending.receipts_to, "halts": sending.halts, "latency": sending.latency,
+    "pipelining": turns.pipelining, "bodies": shortage.bodies, "descriptors": shortage.descriptors, "askers": shortage.askers, "extensions": shortage.extensions,
 }
 
 
@@ -82,6 +90,11 @@ def words():
     asked.add_argument("--watch", type=float, default=65, help="seconds that `gone` looks on")
     asked.add_argument("--latencies", type=int, default=300, help="documents of `latency`")
     asked.add_argument("--milliseconds", type=float, default=50, help="the most that one of a hundred of them may not pass")
+    asked.add_argument("--pipelining", type=int, nargs="*", default=[63, 64, 500], help="clients of `pipelining`")
+    asked.add_argument("--bodies", type=int, default=400, help="slow bodies of `bodies`")
+    asked.add_argument("--idle", type=int, default=200, help="idle peers of `descriptors`")
+    asked.add_argument("--asked", type=float, default=12, help="seconds in which a command of `askers` is to be done, besides the slack")
+    asked.add_argument("--unanswered", type=float, default=10, help="seconds after which an honest post of these four counts as not answered")
     asked.add_argument("--seed", type=int, default=1)
     asked.add_argument("--slack", type=float, default=3, help="seconds that a machine under load may add to any wait")
     asked.add_argument("--patience", type=float, default=60, help="seconds that anything is waited for")
