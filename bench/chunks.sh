@@ -2,8 +2,7 @@
 # What chunks cost: `post` over a stream of 20 posts of 1 MiB, in memory, by their length and in chunks of 65,536, of 1,024 and of 1
 # byte, each measured in turn in one run.
 set -eu
-top=$(cd "$(dirname "$0")/.." && pwd)
-"$top/as2desk" --version > /dev/null
+. "$(dirname "$0")/program.sh"
 folder=$(mktemp -d)
 trap 'rm -rf "$folder"' EXIT
-python3 "$top/bench/chunks.py" "$top/crates/as2desk/out/as2desk" "$top/examples/agreements.toml" "$folder" "$@"
+python3 "$top/bench/chunks.py" "$program" "$top/examples/agreements.toml" "$folder" "$@"

@@ -2,9 +2,8 @@
 # The speed of the first request: starts of the program per second on the plain post, beside starts of `true`; and the
 # time of a post of 1,048,576 bytes, beside `sha1sum` of the same bytes. Each pair is measured in turn in one run.
 set -eu
-top=$(cd "$(dirname "$0")/.." && pwd)
-"$top/as2desk" --version > /dev/null
-exec python3 - "$top/crates/as2desk/out/as2desk" "$top/examples/plain-post.http" "$top/examples/agreements.toml" <<'END'
+. "$(dirname "$0")/program.sh"
+exec python3 - "$program" "$top/examples/plain-post.http" "$top/examples/agreements.toml" <<'END'
 import os, statistics, subprocess, sys, tempfile, time
 
 program, plain, agreements = sys.argv[1:]

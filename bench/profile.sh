@@ -3,9 +3,8 @@
 # counts them (a byte that is set or copied may count as one), and the bytes that they write and the syncs, to a new file.
 # Wants `valgrind`, `strace`, `cc` and the headers of libsqlite3 and OpenSSL.
 set -eu
-top=$(cd "$(dirname "$0")/.." && pwd)
-"$top/as2desk" --version > /dev/null
+. "$(dirname "$0")/program.sh"
 folder=$(mktemp -d)
 trap 'rm -rf "$folder"' EXIT
 cc -O2 "$top/bench/peer.c" -o "$folder/peer" -lsqlite3 -lcrypto
-python3 "$top/bench/profile.py" "$top/crates/as2desk/out/as2desk" "$folder/peer" "$top/examples/agreements.toml" "$folder"
+python3 "$top/bench/profile.py" "$program" "$folder/peer" "$top/examples/agreements.toml" "$folder"

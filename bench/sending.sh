@@ -4,6 +4,5 @@
 # each synced, as either syncs. Then `list out` of 100,000 documents: seconds, and the most memory held.
 # `bench/sending.sh [COUNT [DOCUMENTS]]`: another count than 1,000, and another than 100,000.
 set -eu
-top=$(cd "$(dirname "$0")/.." && pwd)
-"$top/as2desk" --version > /dev/null
-exec python3 "$top/bench/sending.py" "$top" "$top/crates/as2desk/out/as2desk" "$@"
+. "$(dirname "$0")/program.sh"
+exec python3 "$top/bench/sending.py" "$top" "$program" "$@"

@@ -3,6 +3,5 @@
 # recorded, each by a program of its own) over a store of 1,000 entries, with SQLite's sums of pages and without, beside starts
 # over a store in memory. `bench/stores.sh PROGRAM` compares with another build of as2desk, over a store that it made.
 set -eu
-top=$(cd "$(dirname "$0")/.." && pwd)
-"$top/as2desk" --version > /dev/null
-exec python3 "$top/bench/stores.py" "$top" "$top/crates/as2desk/out/as2desk" "$@"
+. "$(dirname "$0")/program.sh"
+exec python3 "$top/bench/stores.py" "$top" "$program" "$@"
