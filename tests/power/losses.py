@@ -1,0 +1,128 @@
+"""What a store has after a loss of power, by the program's own commands and by SQLite, and what it lacks of what the station owed. Used by
+power.py."""
+import collections
+import json
+import os
+import random
+import shutil
+import sqlite3
+import subprocess
+
+from traces import lay_out, mixes
+
+CUTS = 4  # moments of a load at which the power is lost
+PATIENCE = 60  # seconds that a command may take
+CONTENT = {
+    "post": "SELECT identifier, bytes FROM inbox2 LEFT JOIN inbox2_piece USING (number) ORDER BY number, position",
+    "submit": "SELECT outbox.number, bytes FROM outbox LEFT JOIN outbox_piece USING (number) ORDER BY outbox.number, position",
+}
+
+
+def moments(record, owed, dice):
+    """Where in the trace the power is lost: at its end, at the first answer after the failed sync, and at random places from there on."""
+    failed = record.failure()
+    if failed is None:
+        return [record.ends[-1]]
+    answered = [one.mark for one in owed if one.mark >= failed]
+    later = [end for end in record.ends if end >= failed]
+    return sorted({record.ends[-1], *answered[:1], *dice.choices(later, k=CUTS - 2)})
+
+
+class After:
+    """The store of a desk after a loss of power."""
+
+    def __init__(self, program, agreements, folder, image):
+        self.program, self.folder = program, folder
+        shutil.rmtree(folder, ignore_errors=True)
+        os.makedirs(folder)
+        shutil.copy(agreements, os.path.join(folder, "agreements.toml"))
+        lay_out(image, folder)
+        self.wrong = []
+
+    def told(self, *words):
+        """What a command prints; a fault of it is wrong."""
+        line = [self.program, "--agreements", "agreements.toml", "--store", "station.db", *words]
+        ran = subprocess.run(line, cwd=self.folder, capture_output=True, timeout=PATIENCE, check=False)
+        if ran.returncode or ran.stderr:
+            self.wrong.append(f"`{' '.join(words)}`: status {ran.returncode}, {ran.stderr.decode().strip()}")
+        return ran.stdout.decode()
+
+    def listed(self, box):
+        return [json.loads(line) for line in self.told("list", box, "--format", "json").splitlines()]
+
+    def contents(self, kind):
+        """The contents by identifier or number, as SQLite reads them."""
+        found = {}
+        base = sqlite3.connect(os.path.join(self.folder, "station.db"))
+        try:
+            for key, piece in base.execute(CONTENT[kind]):
+                key = key.decode() if isinstance(key, bytes) else key
+                found[key] = found.get(key, b"") + (piece or b"")
+        except sqlite3.Error as fault:
+            self.wrong.append(f"SQLite: {fault}")
+        finally:
+            base.close()
+        return found
+
+    def lacks(self, owed):
+        """What is wrong: what isn't there of what is owed, and what the program finds itself."""
+        taken, given = self.listed("in"), {one["number"]: one for one in self.listed("out")}
+        verified = self.told("verify")
+        if not verified.endswith(", 0 findings\n"):
+            self.wrong.append(f"`verify`: {verified.splitlines()[:1]}")
+        counts = collections.Counter(one["identifier"] for one in taken)
+        self.wrong += [f"{name} is recorded {count} times" for name, count in counts.items() if count > 1]
+        contents = {kind: self.contents(kind) for kind in CONTENT}
+        for one in owed:
+            fault = self.lack(one, counts, given, contents)
+            if fault:
+                self.wrong.append(fault)
+        return self.wrong
+
+    @staticmethod
+    def lack(one, counts, given, contents):
+        """What the store lacks of this; None if it has it."""
+        is_there = one.key in (counts if one.kind == "post" else given)
+        if not is_there:
+            return f"{one.kind} {one.key} isn't there"
+        if one.kind in CONTENT:
+            return None if contents[one.kind].get(one.key) == one.value else f"{one.kind} {one.key} has another content"
+        if one.kind == "tried":
+            return None if given[one.key]["tries"] >= one.value else f"document {one.key} has lost a try: {given[one.key]['tries']} of {one.value}"
+        return None if given[one.key]["state"] == one.value else f"document {one.key} was settled, and is {given[one.key]['state']}"
+
+
+class Tally:
+    """What came of the losses of power of a load."""
+
+    def __init__(self):
+        self.mixes, self.lossy, self.first, self.most = 0, 0, None, 0
+
+    def take(self, where, wrong):
+        self.mixes += 1
+        if wrong:
+            self.lossy += 1
+            self.most = max(self.most, len(wrong))
+            self.first = self.first or f"{where}: {'; '.join(wrong[:3])}"
+
+
+def is_whole(record, folder):
+    """Whether the trace tells all that the program did: by it the files are what they are."""
+    found = {}
+    for name in record.disk(record.ends[-1]).files:
+        with open(os.path.join(folder, os.path.basename(name.decode())), "rb") as file:
+            found[name] = file.read()
+    return found == {name: bytes(text) for name, text in record.disk(record.ends[-1]).image().items()}
+
+
+def lose(program, desk, record, owed, most, seed):
+    """Loses the power at some moments of a load, with so many mixes at most at each: what came of it."""
+    tally, dice = Tally(), random.Random(seed)
+    for end in moments(record, owed, dice):
+        by_then = [one for one in owed if one.mark <= end]
+        for how, image in mixes(record.disk(end), most, seed):
+            if not any(name.endswith(b"/station.db") for name in image) and not by_then:
+                continue
+            after = After(program, desk.path("agreements.toml"), desk.folder + ".after", image)
+            tally.take(f"power lost at {end} of {record.ends[-1]}, {how}", after.lacks(by_then))
+    return tally
