@@ -4,14 +4,16 @@
 
     run           posts, some at once, and submits to `run`, which sends them; what was refused is asked again until it is answered
     run-again     the same; three syncs fail in succession
+    run-twice     the same; another sync fails soon afterwards, one of those of the next open, say
     run-died      the same; the program is killed at the failed sync, and started again
     run-dropped   the same; after the failed sync the system shows what is on the disk, without what was written
     post          `post` and `submit`, a process for each
-    post-again, post-died, post-dropped   as those of `run`
+    post-again, post-twice, post-died, post-dropped   as those of `run`
     send          `submit` and `send` in turn, a process for each
     send-died     the same, killed at the failed sync
     serve         posts to `serve`
-    control       a disk that lies: `run` and `post` must be found to have lost what they answered
+    control       a disk that lies: `run` and `post` must be found to have lost what they answered; and files that count as written anew at each
+                  open, as if the program did that: nothing must be found then
 
 In each case sync 1 fails in the first load, sync 2 in the second, and so on. A shim (power/shim.c) fails it and writes down what the program does to
 its files. From that record power/traces.py makes the disks that there may be after the loss: what the failed sync held is there, or isn't, or some of
@@ -21,14 +23,16 @@ Each case prints a line, and one before it for each sync after which something w
 program is ./as2desk, or the file that --program names.
 """
 import argparse
+import collections
 import concurrent.futures
+import logging
 import os
 import pathlib
-import shutil
 import subprocess
 import sys
 import tempfile
 import time
+import warnings
 
 HERE = pathlib.Path(__file__).resolve().parent
 sys.path[:0] = [str(HERE / "power"), str(HERE / "live"), str(HERE / "hostile")]
@@ -37,15 +41,18 @@ import loads
 import losses
 from station import STARTER, Differences, room
 
-# the load, what a failed sync does, and how many fail in succession
+# which syncs fail, by the first of them
+ONCE, AGAIN, TWICE = (lambda first: (first,)), (lambda first: (first, first + 1, first + 2)), (lambda first: (first, first + 1 + first * 7 % 24))
+# the load, what a failed sync does, and which fail
 CASES = {
-    "run": (loads.Runs, "keep", 1), "run-again": (loads.Runs, "keep", 3), "run-died": (loads.Runs, "kill", 1),
-    "run-dropped": (loads.Runs, "drop", 1), "post": (loads.Commands, "keep", 1), "post-again": (loads.Commands, "keep", 3),
-    "post-died": (loads.Commands, "kill", 1), "post-dropped": (loads.Commands, "drop", 1), "send": (loads.Sends, "keep", 1),
-    "send-died": (loads.Sends, "kill", 1), "serve": (loads.Serves, "keep", 1),
+    "run": (loads.Runs, "keep", ONCE), "run-again": (loads.Runs, "keep", AGAIN), "run-twice": (loads.Runs, "keep", TWICE),
+    "run-died": (loads.Runs, "kill", ONCE), "run-dropped": (loads.Runs, "drop", ONCE), "post": (loads.Commands, "keep", ONCE),
+    "post-again": (loads.Commands, "keep", AGAIN), "post-twice": (loads.Commands, "keep", TWICE), "post-died": (loads.Commands, "kill", ONCE),
+    "post-dropped": (loads.Commands, "drop", ONCE), "send": (loads.Sends, "keep", ONCE), "send-died": (loads.Sends, "kill", ONCE),
+    "serve": (loads.Serves, "keep", ONCE),
 }
-CONTROLS = (loads.Runs, loads.Commands)
-LIES = (60, 80, 100, 120)  # the syncs from which on the disk of a control lies
+CONTROLS = [(loads.Runs, "lie"), (loads.Commands, "lie"), (loads.Runs, "anew"), (loads.Commands, "anew")]
+CONTROLLED = (61, 80, 100, 127)  # the syncs of the controls
 SHOWN = 12  # lines of a case at most
 # what would change a file without the shim's knowing
 UNSEEN = {"mmap", "mmap64", "pwritev", "pwritev64", "pwritev2", "sendfile", "sendfile64", "copy_file_range", "fallocate", "fallocate64", "posix_fallocate",
@@ -61,7 +68,7 @@ def words():
     asked.add_argument("--syncs", type=int, default=200, help="how many syncs are made to fail, each in a load of its own")
     asked.add_argument("--first", type=int, default=1, help="the first of them")
     asked.add_argument("--step", type=int, default=1, help="2 leaves out every other one")
-    asked.add_argument("--mixes", type=int, default=12, help="disks at most for each moment at which the power is lost")
+    asked.add_argument("--mixes", type=int, default=10, help="disks at most for each moment at which the power is lost")
     asked.add_argument("--jobs", type=int, default=os.cpu_count(), help="loads at once")
     asked.add_argument("--seed", type=int, default=1)
     return asked.parse_args()
@@ -99,17 +106,14 @@ class Trial:
         differences.expect("functions that the shim doesn't see", unseen(self.program), [])
 
     def load(self, name, kind, how, syncs):
-        """One load and its losses of power: whether its sync came, and what came of them."""
-        folder = os.path.join(self.folder, f"{name}-{syncs[0]}")
-        try:
-            load = kind(self.program, folder, self.shim, syncs, how)
+        """One load and its losses of power: what came of them."""
+        with tempfile.TemporaryDirectory(prefix=f"{name}-{syncs[0]}-", dir=self.folder) as folder:
+            desk = os.path.join(folder, "desk")
+            load = kind(self.program, desk, self.shim, syncs, how)
             record, owed = load.run()
-            if not losses.is_whole(record, folder):
+            if not losses.is_whole(record, desk):
                 raise RuntimeError("the trace doesn't tell all that was written")
-            return record.failure() is not None, losses.lose(self.program, load.desk, record, owed, self.given.mixes, self.given.seed * 1000 + syncs[0])
-        finally:
-            for path in pathlib.Path(self.folder).glob(f"{name}-{syncs[0]}*"):
-                shutil.rmtree(path) if path.is_dir() else path.unlink()
+            return losses.lose(self.program, load.desk, record, owed, self.given.mixes, self.given.seed * 1000 + syncs[0])
 
     def loads(self, name, kind, how, turns):
         """The loads whose syncs are these, some at once; each as its syncs, whether they came, and its tally, or the fault that broke it off."""
@@ -120,33 +124,42 @@ class Trial:
 
     def case(self, name):
         """Fails each sync in turn; what is told of it."""
-        kind, how, many = CASES[name]
-        turns = [(first, first + many - 1) for first in range(self.given.first, self.given.first + self.given.syncs, self.given.step)]
-        lossy, mixes, came, lost, shown = [], 0, 0, 0, []
-        for first, fault, found in self.loads(name, kind, how, turns):
+        kind, how, fails = CASES[name]
+        turns = [fails(first) for first in range(self.given.first, self.given.first + self.given.syncs, self.given.step)]
+        tallies, shown = [], []
+        for first, fault, tally in self.loads(name, kind, how, turns):
             if fault:
                 shown.append((first, f"{name}, sync {first}: it broke off", repr(fault)))
                 continue
-            came, mixes, lost = came + found[0], mixes + found[1].mixes, lost + found[1].lossy
-            if found[1].lossy:
-                lossy.append(first)
-                shown.append((first, f"{name}, sync {first}: {found[1].lossy} of {found[1].mixes} disks lack something", found[1].first))
+            tallies.append(tally)
+            if tally.lossy:
+                of = f"sync {first}, of {', '.join(tally.failed)}"
+                shown.append((first, f"{name}, {of}: {tally.lossy} of {tally.mixes} disks lack something", tally.first))
         for _, what, text in sorted(shown)[:SHOWN]:
             self.differences.differ(what, text)
         if len(shown) > SHOWN:
             self.differences.differ(f"{name}: {len(shown) - SHOWN} syncs more", str([first for first, _, _ in sorted(shown)[SHOWN:]]))
-        return f"{len(turns)} loads, in {came} of which a sync failed, {mixes} disks; {lost} disks of {len(lossy)} loads lack something"
+        return summary(turns, tallies)
 
     def control(self):
-        """A disk that lies, whatever the program does: that it has lost what was answered must be found."""
+        """A disk that lies, whatever the program does: that it has lost what was answered must be found. And a program that loses nothing."""
         told = []
-        for kind in CONTROLS:
-            name = f"control-{kind.__name__.lower()}"
-            for first, fault, found in self.loads(name, kind, "lie", [(first, first) for first in LIES]):
-                lossy = 0 if fault else found[1].lossy
-                self.differences.expect(f"{name}: lies from sync {first} on are found, {fault!r}", lossy > 0, True)
-                told.append(f"{lossy} of {found[1].mixes if found else 0}")
-        return f"disks that lack something are found: {', '.join(told)}"
+        for kind, how in CONTROLS:
+            found = list(self.loads(f"control-{how}", kind, how, [(first,) for first in CONTROLLED]))
+            broken = [fault for _, fault, _ in found if fault]
+            lossy = [first for first, _, tally in found if tally and tally.lossy]
+            self.differences.expect(f"control: {kind.__name__}, {how}: loads that broke off", broken, [])
+            self.differences.expect(f"control: {kind.__name__}, {how}: loads with losses", len(lossy), len(CONTROLLED) if how == "lie" else 0)
+            told.append(f"{len(lossy)} of {len(found)}")
+        return f"loads in which a lying disk is found: {' and '.join(told[:2])}; with losses though all is written anew: {' and '.join(told[2:])}"
+
+
+def summary(turns, tallies):
+    """What is told of so many loads."""
+    failed = collections.Counter(name for tally in tallies for name in tally.failed)
+    of = ", ".join(f"{count} of {name}" for name, count in sorted(failed.items()))
+    disks, lossy, loads_lossy = (sum(counts) for counts in zip(*((tally.mixes, tally.lossy, tally.lossy > 0) for tally in tallies), (0, 0, 0)))
+    return f"{len(turns)} loads, syncs that failed: {of}; {lossy} of {disks} disks lack something, of {loads_lossy} loads"
 
 
 def tried(trial, name):
@@ -160,6 +173,8 @@ def tried(trial, name):
 
 def main():
     given, differences = words(), Differences()
+    logging.getLogger("asyncio").setLevel(logging.CRITICAL)  # of partners that end while a station comes to them
+    warnings.filterwarnings("ignore", message="coroutine .* was never awaited")
     with room() as shared, tempfile.TemporaryDirectory(prefix="power-", dir=shared) as folder:
         trial = Trial(given, folder, differences)
         fine = [tried(trial, name) for name in given.cases or [*CASES, "control"]]

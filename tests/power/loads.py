@@ -35,10 +35,10 @@ class Watched(Office):
         with open(self.count, "wb") as file:
             file.write(bytes(8))
 
-    def fails(self, first, last, how):
+    def fails(self, syncs, how):
         """These syncs fail in that way: a script starts the program with the shim."""
         names = {"LD_PRELOAD": self.shim, "POWER_STORE": os.path.join(os.path.realpath(self.folder), self.store), "POWER_TRACE": self.trace,
-                 "POWER_COUNT": self.count, "POWER_FIRST": first, "POWER_LAST": last, "POWER_HOW": how}
+                 "POWER_COUNT": self.count, "POWER_FAILS": ",".join(map(str, syncs)), "POWER_HOW": how}
         self.program = self.folder + ".sh"
         with open(self.program, "w", encoding="ascii") as script:
             script.write("#!/bin/sh\nexport " + " ".join(f"{name}='{value}'" for name, value in names.items()) + f"\nexec '{self.own}' \"$@\"\n")
@@ -59,8 +59,8 @@ class Load:
 
     def __init__(self, program, folder, shim, syncs, how):
         self.partner = Partner("Buyer", self.answer, tries=50, retry=1)
-        self.desk, self.last, self.owed, self.seen = Watched(program, folder, shim, self.partner), syncs[1], [], collections.Counter()
-        self.desk.fails(*syncs, how)
+        self.desk, self.last, self.owed, self.seen = Watched(program, folder, shim, self.partner), max(syncs), [], collections.Counter()
+        self.desk.fails(syncs, how)
         self.is_over = False
 
     def answer(self, caller):

@@ -10,7 +10,6 @@ import subprocess
 
 from traces import lay_out, mixes
 
-CUTS = 4  # moments of a load at which the power is lost
 PATIENCE = 60  # seconds that a command may take
 CONTENT = {
     "post": "SELECT identifier, bytes FROM inbox2 LEFT JOIN inbox2_piece USING (number) ORDER BY number, position",
@@ -19,13 +18,12 @@ CONTENT = {
 
 
 def moments(record, owed, dice):
-    """Where in the trace the power is lost: at its end, at the first answer after the failed sync, and at random places from there on."""
-    failed = record.failure()
-    if failed is None:
+    """Where in the trace the power is lost: at its end, at the first answer after a failed sync, and at a random place after the first of them."""
+    failures = record.failures()
+    if not failures:
         return [record.ends[-1]]
-    answered = [one.mark for one in owed if one.mark >= failed]
-    later = [end for end in record.ends if end >= failed]
-    return sorted({record.ends[-1], *answered[:1], *dice.choices(later, k=CUTS - 2)})
+    answers = [min((one.mark for one in owed if one.mark >= failed), default=record.ends[-1]) for failed in (failures[0], failures[-1])]
+    return sorted({record.ends[-1], *answers, dice.choice([end for end in record.ends if end >= failures[0]])})
 
 
 class After:
@@ -93,16 +91,15 @@ class After:
 
 
 class Tally:
-    """What came of the losses of power of a load."""
+    """What came of the losses of power of a load: the files whose syncs failed, how many disks there were, and how many lacked something."""
 
-    def __init__(self):
-        self.mixes, self.lossy, self.first, self.most = 0, 0, None, 0
+    def __init__(self, failed):
+        self.failed, self.mixes, self.lossy, self.first = failed, 0, 0, None
 
     def take(self, where, wrong):
         self.mixes += 1
         if wrong:
             self.lossy += 1
-            self.most = max(self.most, len(wrong))
             self.first = self.first or f"{where}: {'; '.join(wrong[:3])}"
 
 
@@ -117,7 +114,7 @@ def is_whole(record, folder):
 
 def lose(program, desk, record, owed, most, seed):
     """Loses the power at some moments of a load, with so many mixes at most at each: what came of it."""
-    tally, dice = Tally(), random.Random(seed)
+    tally, dice = Tally(record.failed()), random.Random(seed)
     for end in moments(record, owed, dice):
         by_then = [one for one in owed if one.mark <= end]
         for how, image in mixes(record.disk(end), most, seed):

@@ -4,9 +4,11 @@
    POWER_STORE   the path that the files' paths begin with; the folder that it is in counts as one of the files, its syncs are records too
    POWER_TRACE   the file that the records are appended to
    POWER_COUNT   a file of 8 bytes, the number of syncs so far, counted over all processes that have it
-   POWER_FIRST, POWER_LAST   the syncs that fail by EIO, counted from 1
+   POWER_FAILS   the syncs that fail by EIO, counted from 1, with commas between them
    POWER_HOW     what a failed sync does: `keep`, the system goes on to show what was written; `drop`, it shows what is on the disk, without the
-                 writes since the file's last sync; `kill`, the process dies; `lie`, from POWER_FIRST on a sync says 0, and nothing was synced
+                 writes since the file's last sync; `kill`, the process dies; `lie`, from the first of POWER_FAILS on a sync says 0, and nothing
+                 was synced; `anew` is `keep`, and a file is recorded as written anew as a whole when the program has the system drop its pages,
+                 as it does when it opens a store: so it would be if the program did that
 
    An answer (bytes for standard output or a socket) is a record too, made before it is given.
    A sync that doesn't fail does nothing: the record alone says what is on the disk. */
@@ -48,14 +50,8 @@ static struct undo *undone[FILES];
 static const char *store, *how = "keep";
 static size_t stem, folder;
 static int trace = -1;
-static long first, last;
+static const char *fails = "";
 static volatile int64_t *count;
-
-static long number(const char *name, long otherwise)
-{
-    const char *text = getenv(name);
-    return text ? atol(text) : otherwise;
-}
 
 __attribute__((constructor)) static void begin(void)
 {
@@ -77,8 +73,7 @@ __attribute__((constructor)) static void begin(void)
     trace = file;
     stem = strlen(store);
     folder = slash - store;
-    first = number("POWER_FIRST", 0);
-    last = number("POWER_LAST", first);
+    fails = getenv("POWER_FAILS") ? getenv("POWER_FAILS") : fails;
     how = getenv("POWER_HOW") ? getenv("POWER_HOW") : how;
 }
 
@@ -283,13 +278,27 @@ int ftruncate64(int file, off64_t length)
     return ftruncate(file, length);
 }
 
+/* Whether that sync fails. */
+static int is_failing(int64_t turn)
+{
+    const char *text = fails;
+    while (*text) {
+        char *end;
+        int64_t other = strtoll(text, &end, 10);
+        if (other == turn || (is_how("lie") && other <= turn))
+            return 1;
+        text = *end ? end + 1 : end;
+    }
+    return 0;
+}
+
 static int synced(int file)
 {
     int64_t turn;
     if (!ours(file))
         return syscall(SYS_fdatasync, file);
     turn = __atomic_add_fetch(count, 1, __ATOMIC_SEQ_CST);
-    if (!first || turn < first || (turn > last && !is_how("lie"))) {
+    if (!is_failing(turn)) {
         tell('s', '0', 0, file, turn, "", NULL, 0);
         forget(file);
         return 0;
@@ -315,6 +324,17 @@ int fsync(int file)
 int fdatasync(int file)
 {
     return synced(file);
+}
+
+int posix_fadvise(int file, off_t at, off_t length, int advice)
+{
+    struct stat found;
+    char *bytes;
+    if (ours(file) && is_how("anew") && advice == POSIX_FADV_DONTNEED && !fstat(file, &found) && (bytes = malloc(found.st_size + 1))) {
+        tell('w', 0, 0, file, 0, "", bytes, syscall(SYS_pread64, file, bytes, found.st_size, 0));
+        free(bytes);
+    }
+    return syscall(SYS_fadvise64, file, at, length, advice) ? errno : 0;
 }
 
 static int renamed(int from, const char *old, int to, const char *new)

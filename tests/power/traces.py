@@ -37,7 +37,7 @@ class Disk:
     """The files by their names, and what was done to each, as a record goes on."""
 
     def __init__(self):
-        self.files, self.open, self.failed = {}, {}, []
+        self.files, self.open, self.names, self.failed = {}, {}, {}, []
 
     def take(self, kind, told, made, process, file, name, at, data):
         """Takes the next record in."""
@@ -47,13 +47,15 @@ class Disk:
                 self.files[name] = []
             elif told:
                 self.files[name].append(Length(0))
-            self.open[handle] = self.files[name]
+            self.open[handle], self.names[handle] = self.files[name], os.path.basename(name.decode())
         elif kind == b"w":
             self.open[handle].append(Write(at, data))
         elif kind == b"t":
             self.open[handle].append(Length(at))
         elif kind == b"s":
-            self.sync(self.open.get(handle, []), chr(told), at)  # of the folder nothing is kept
+            self.sync(self.open.get(handle, []), chr(told))  # of the folder nothing is kept
+            if told != ord("0"):
+                self.failed.append(self.names[handle] if handle in self.open else "the folder")
         elif kind == b"c":
             self.open.pop(handle, None)
         elif kind == b"r" and name in self.files:
@@ -61,7 +63,8 @@ class Disk:
         elif kind == b"u":
             self.files.pop(name, None)
 
-    def sync(self, changes, how, turn):
+    @staticmethod
+    def sync(changes, how):
         """A sync: `0` succeeded, `f` failed, `d` failed and took the writes back, `l` said that it succeeded."""
         if how == "d":
             changes[:] = [change for change in changes if change.state != PENDING]
@@ -69,16 +72,27 @@ class Disk:
             for change in changes:
                 if change.state == PENDING:
                     change.state = DURABLE if how == "0" else DROPPED
-        if how != "0":
-            self.failed.append(turn)
 
     def unsure(self):
         """The writes that are on the disk or aren't, in order, of all files that have a name."""
-        return [change for name in sorted(self.files) for change in self.files[name] if change.state != DURABLE]
+        return [change for name in sorted(self.files) for change in shown(self.files[name])]
 
     def image(self, has=None):
         """The files' bytes by their names. `has` tells of a write that is unsure which of its pages are there; without it all are."""
         return {name: bytes_of(changes, has) for name, changes in self.files.items()}
+
+
+def shown(changes):
+    """The writes that are unsure, without those whose place a later change has taken for sure."""
+    found, later = [], []
+    for change in reversed(changes):
+        if isinstance(change, Length):
+            later.append((change.at, float("inf")))
+        elif change.state == DURABLE:
+            later.append((change.at, change.at + len(change.data)))
+        elif not any(first <= change.at and change.at + len(change.data) <= last for first, last in later):
+            found.append(change)
+    return found[::-1]
 
 
 def bytes_of(changes, has):
@@ -130,9 +144,13 @@ class Record:
         """Where an answer that had come by that place of the trace was given at the latest."""
         return self.answers[bisect.bisect_right(self.answers, place) - 1]
 
-    def failure(self):
-        """Where the first failed sync ends in the trace; None where none failed."""
-        return next((end for record, end in zip(self.records, self.ends) if record[0] == b"s" and record[1] != ord("0")), None)
+    def failed(self):
+        """The files whose syncs failed."""
+        return self.disk(self.ends[-1]).failed
+
+    def failures(self):
+        """Where the failed syncs end in the trace."""
+        return [end for record, end in zip(self.records, self.ends) if record[0] == b"s" and record[1] != ord("0")]
 
     def disk(self, end):
         """The disk once the records up to that place were made."""
@@ -166,10 +184,10 @@ def mixes(disk, most, seed):
     if not unsure:
         yield "nothing is unsure", disk.image()
         return
-    order = {id(change): at for at, change in enumerate(unsure)}
+    order = {id(change): at for at, change in enumerate(unsure)}  # what isn't in it is hidden by later changes
     whole = most - most // 3 if any(len(pages_of(change)) > 1 for change in unsure) else most
     for there in choices(len(unsure), whole, dice):
-        yield f"{sorted(there)} of {len(unsure)} writes", disk.image(lambda change: [(change.at, change.data)] if order[id(change)] in there else [])
+        yield f"{sorted(there)} of {len(unsure)} writes", disk.image(lambda change: [(change.at, change.data)] if order.get(id(change)) in there else [])
     for turn in range(most - whole):
         yield f"torn, {turn}", disk.image(lambda change: [piece for piece in pages_of(change) if dice.random() < 0.5])
 
