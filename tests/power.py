@@ -154,12 +154,18 @@ class Trial:
         return f"loads in which a lying disk is found: {' and '.join(told[:2])}; with losses though all is written anew: {' and '.join(told[2:])}"
 
 
+def counted(tallies):
+    """How many syncs failed in these loads, by their files."""
+    failed = collections.Counter(name for tally in tallies for name in tally.failed)
+    return ", ".join(f"{count} of {name}" for name, count in sorted(failed.items())) or "none"
+
+
 def summary(turns, tallies):
     """What is told of so many loads."""
-    failed = collections.Counter(name for tally in tallies for name in tally.failed)
-    of = ", ".join(f"{count} of {name}" for name, count in sorted(failed.items()))
-    disks, lossy, loads_lossy = (sum(counts) for counts in zip(*((tally.mixes, tally.lossy, tally.lossy > 0) for tally in tallies), (0, 0, 0)))
-    return f"{len(turns)} loads, syncs that failed: {of}; {lossy} of {disks} disks lack something, of {loads_lossy} loads"
+    lossy = [tally for tally in tallies if tally.lossy]
+    disks, lacking = sum(tally.mixes for tally in tallies), sum(tally.lossy for tally in tallies)
+    told = f"{len(turns)} loads, failed syncs: {counted(tallies)}; {lacking} of {disks} disks lack something"
+    return told + (f", of {len(lossy)} loads, with failed syncs: {counted(lossy)}" if lossy else "")
 
 
 def tried(trial, name):

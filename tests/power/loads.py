@@ -1,4 +1,4 @@
-"""A station under load whose syncs fail: what it is asked, and what it answered by which place of the trace. Used by power.py."""
+"""A station under load while its syncs fail: what it is asked, and what it owes from which place of the trace on. Used by power.py."""
 import collections
 import concurrent.futures
 import os
@@ -14,20 +14,20 @@ from sending import Office, asks_at
 from station import post_of
 from traces import Record
 
-AFTER = 6  # turns after the last sync that fails
-MOST = 400  # turns in all
-PATIENCE = 20  # seconds that anything may take until it is answered
-PAUSE = 0.02  # seconds until it is asked again
-BIG = 60_000  # bytes of some documents, so that the log gets full meanwhile
+AFTER = 6  # turns after the last failed sync
+MOST = 400  # turns at most
+PATIENCE = 20  # seconds within which every request is answered in the end
+PAUSE = 0.02  # seconds between two attempts
+BIG = 60_000  # bytes of some documents: the log gets full during the load
 SERVED = 100_000  # connections of `serve`
 
-# What the station owes from that place of the trace on: a `post` of that identifier with that content, a `submit` of that number with that content,
-# so many tries of a document that were begun (`tried`), or that it is settled.
+# What the station owes from a place of the trace (`mark`) on. The kinds are `post`, an identifier with its content; `submit`, a number with its
+# content; `tried`, a number with the tries that were begun; and `settled`, a number with its state.
 Owed = collections.namedtuple("Owed", "mark kind key value")
 
 
 class Watched(Office):
-    """A desk whose program has the shim, and its trace."""
+    """A desk whose program runs with the shim."""
 
     def __init__(self, program, folder, shim, *partners):
         super().__init__(program, folder, *partners)
@@ -36,7 +36,7 @@ class Watched(Office):
             file.write(bytes(8))
 
     def fails(self, syncs, how):
-        """These syncs fail in that way: a script starts the program with the shim."""
+        """Makes these syncs fail in that way. A script starts the program with the shim."""
         names = {"LD_PRELOAD": self.shim, "POWER_STORE": os.path.join(os.path.realpath(self.folder), self.store), "POWER_TRACE": self.trace,
                  "POWER_COUNT": self.count, "POWER_FAILS": ",".join(map(str, syncs)), "POWER_HOW": how}
         self.program = self.folder + ".sh"
@@ -45,17 +45,17 @@ class Watched(Office):
         os.chmod(self.program, 0o755)
 
     def mark(self):
-        """How long the trace is."""
+        """The length of the trace."""
         return os.stat(self.trace).st_size if os.path.exists(self.trace) else 0
 
     def syncs(self):
-        """How many syncs there were."""
+        """The number of syncs so far."""
         with open(self.count, "rb") as file:
             return struct.unpack("<q", file.read(8))[0]
 
 
 class Load:
-    """Requests to a station, one after the other or some at once, until so many turns after its last failed sync; what it owes then."""
+    """Requests to a station, most of them one after the other, until some turns after its last failed sync; and what it owes."""
 
     def __init__(self, program, folder, shim, syncs, how):
         self.partner = Partner("Buyer", self.answer, tries=50, retry=1)
@@ -64,7 +64,7 @@ class Load:
         self.is_over = False
 
     def answer(self, caller):
-        """The partner's way: the receipt at once. That it saw a try was preceded by its record."""
+        """How the partner answers: with the receipt, at once. The try that it sees must be on record."""
         found = DOCUMENT.search(caller.tried.head)
         if found and not self.is_over:
             number = int(found.group(1))
@@ -79,7 +79,7 @@ class Load:
         self.owed.append(Owed(self.desk.mark(), kind, key, value))
 
     def until_done(self, what, work):
-        """Asks for it until it is done: what came of it."""
+        """Repeats a request until it returns something else than None. Returns that."""
         end = time.monotonic() + PATIENCE
         while time.monotonic() < end:
             found = work()
@@ -89,7 +89,7 @@ class Load:
         raise TimeoutError(f"{what} isn't answered in {PATIENCE} s")
 
     def request(self, turn, part=0):
-        """The identifier, the content and the text of a post: of three kinds, by whether and how it asks for a receipt."""
+        """The identifier, the content and the text of a post. It asks for a receipt in the answer, for none, or for one that is sent later."""
         name, kind = b"power-%d-%d" % (turn, part), turn % 4
         content = b"content of %d and %d, " % (turn, part) * (BIG // 20 if turn % 5 == 2 else 3)
         text = post_of(name, content)
@@ -100,25 +100,25 @@ class Load:
         return f"<{name.decode()}@x>", content, text
 
     def post(self, turn, part=0):
-        """Posts a document until it is answered by 200 or 202."""
+        """Posts a document until it is answered with 200 or 202."""
         identifier, content, text = self.request(turn, part)
         self.until_done(identifier, lambda: self.posted(text))
         self.owe("post", identifier, content)
 
     def submit(self, turn):
-        """Hands a document in until it has a number."""
+        """Submits a document until it has a number."""
         content = b"order of turn %d, " % turn * 40
         self.owe("submit", self.until_done(f"submit {turn}", lambda: self.submitted(content)), content)
 
     def turn(self, at):
-        """The next request."""
+        """Makes the next request."""
         if at % 5 == 3:
             self.submit(at)
         else:
             self.post(at)
 
     def run(self):
-        """The record, and what is owed."""
+        """Runs the load. Returns the record, and what is owed."""
         with Partners(self.partner):
             try:
                 at, left = 0, AFTER
@@ -133,14 +133,14 @@ class Load:
         return record, [one._replace(mark=record.answered(one.mark)) for one in self.owed]
 
     def end(self):
-        """What is done before the power is lost."""
+        """Called before the power is lost."""
 
     def leave(self):
-        """Ends what runs."""
+        """Ends the processes."""
 
 
 class Commands(Load):
-    """`post` and `submit`, a process for each."""
+    """`post` and `submit`, one process for each request."""
 
     def posted(self, text):
         _, output, _ = self.desk.run("post", text=text)
@@ -154,7 +154,7 @@ class Commands(Load):
 
 
 class Sends(Commands):
-    """`submit` and `send` in turn."""
+    """`submit` and `send`, and sometimes `post`."""
 
     def turn(self, at):
         if at % 3 == 2:
@@ -167,7 +167,7 @@ class Sends(Commands):
 
 
 class Runs(Load):
-    """`run`, which is started again when it has ended."""
+    """`run`, started again whenever it has ended."""
 
     station = None
 
@@ -176,7 +176,7 @@ class Runs(Load):
         self.lock = threading.Lock()
 
     def there(self):
-        """The station, which listens; None if it ended at once, as it does when its store doesn't open."""
+        """The station, once it listens; None if it ended at once because its store couldn't be opened."""
         with self.lock:
             if self.station is None or not self.station.is_running():
                 try:
@@ -194,7 +194,7 @@ class Runs(Load):
         return True if statuses in ([200], [202]) else None
 
     def asked(self, *command, content=b""):
-        """What the station prints; None if it doesn't do it."""
+        """What the station prints for a command; None if it refuses."""
         try:
             status, output = self.desk.ask(*command, content=content) if self.there() else (1, b"")
         except OSError:
@@ -212,7 +212,7 @@ class Runs(Load):
             return list(posters.map(self.post, [at] * 3, range(3)))
 
     def is_settled(self):
-        """Whether all documents are settled; what is settled is owed."""
+        """Whether all documents are settled. From then on the station owes that."""
         output = self.asked("list", "out")
         lines = [line.split() for line in output.decode().splitlines()] if output else []
         settled = [int(words[0]) for words in lines if words[1] == "S"]
@@ -230,12 +230,12 @@ class Runs(Load):
 
 
 class Serves(Load):
-    """`serve`, which is started again when it has ended."""
+    """`serve`, started again whenever it has ended."""
 
     process = address = None
 
     def there(self):
-        """Where it listens; None if it ended at once."""
+        """The address; None if it ended at once because its store couldn't be opened."""
         if self.process is None or self.process.poll() is not None:
             self.leave()
             words = self.desk.words("serve", "--listen", "127.0.0.1:0", "--count", str(SERVED))
@@ -246,7 +246,7 @@ class Serves(Load):
         return self.address
 
     def said(self):
-        """The address that it says it listens on."""
+        """The address in its first line; None if there is no such line yet."""
         with open(self.desk.path("said.txt"), "rb") as said:
             line = said.readline().decode()
         if not line.startswith("listening: ") or not line.endswith("\n"):

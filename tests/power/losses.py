@@ -1,4 +1,4 @@
-"""What a store has after a loss of power, by the program's own commands and by SQLite, and what it lacks of what the station owed. Used by
+"""What a store holds after a loss of power, read by the program's own commands and by SQLite, and what is missing of what the station owes. Used by
 power.py."""
 import collections
 import json
@@ -18,7 +18,8 @@ CONTENT = {
 
 
 def moments(record, owed, dice):
-    """Where in the trace the power is lost: at its end, at the first answer after a failed sync, and at a random place after the first of them."""
+    """The places of the trace at which the power is lost: its end, the first answer after the first failed sync and after the last one, and a random
+    place after the first failed sync."""
     failures = record.failures()
     if not failures:
         return [record.ends[-1]]
@@ -38,7 +39,7 @@ class After:
         self.wrong = []
 
     def told(self, *words):
-        """What a command prints; a fault of it is wrong."""
+        """What a command prints. A status other than 0, or a line on standard error, is noted as wrong."""
         line = [self.program, "--agreements", "agreements.toml", "--store", "station.db", *words]
         ran = subprocess.run(line, cwd=self.folder, capture_output=True, timeout=PATIENCE, check=False)
         if ran.returncode or ran.stderr:
@@ -49,7 +50,7 @@ class After:
         return [json.loads(line) for line in self.told("list", box, "--format", "json").splitlines()]
 
     def contents(self, kind):
-        """The contents by identifier or number, as SQLite reads them."""
+        """The contents by identifier or by number, as SQLite reads them."""
         found = {}
         base = sqlite3.connect(os.path.join(self.folder, "station.db"))
         try:
@@ -63,7 +64,7 @@ class After:
         return found
 
     def lacks(self, owed):
-        """What is wrong: what isn't there of what is owed, and what the program finds itself."""
+        """Everything that is wrong: what is missing of what is owed, and what the commands report."""
         taken, given = self.listed("in"), {one["number"]: one for one in self.listed("out")}
         verified = self.told("verify")
         if not verified.endswith(", 0 findings\n"):
@@ -79,7 +80,7 @@ class After:
 
     @staticmethod
     def lack(one, counts, given, contents):
-        """What the store lacks of this; None if it has it."""
+        """What is missing of this one thing; None if nothing is."""
         is_there = one.key in (counts if one.kind == "post" else given)
         if not is_there:
             return f"{one.kind} {one.key} isn't there"
@@ -91,7 +92,7 @@ class After:
 
 
 class Tally:
-    """What came of the losses of power of a load: the files whose syncs failed, how many disks there were, and how many lacked something."""
+    """The results of a load: the files whose syncs failed, the number of disks, how many of them lacked something, and the first that did."""
 
     def __init__(self, failed):
         self.failed, self.mixes, self.lossy, self.first = failed, 0, 0, None
@@ -104,22 +105,24 @@ class Tally:
 
 
 def is_whole(record, folder):
-    """Whether the trace tells all that the program did: by it the files are what they are."""
-    found = {}
-    for name in record.disk(record.ends[-1]).files:
+    """Whether the trace is complete: the files that are rebuilt from it equal those that the program left."""
+    image = record.disk(record.ends[-1]).image()
+    for name, text in image.items():
         with open(os.path.join(folder, os.path.basename(name.decode())), "rb") as file:
-            found[name] = file.read()
-    return found == {name: bytes(text) for name, text in record.disk(record.ends[-1]).image().items()}
+            if file.read() != text:
+                return False
+    return {name for name in os.listdir(folder) if name.startswith("station.db") and not name.endswith(".ctl")} == {
+        os.path.basename(name.decode()) for name in image}
 
 
 def lose(program, desk, record, owed, most, seed):
-    """Loses the power at some moments of a load, with so many mixes at most at each: what came of it."""
+    """Loses the power at some moments of a load, and looks at `most` disks at most for each. Returns the tally."""
     tally, dice = Tally(record.failed()), random.Random(seed)
     for end in moments(record, owed, dice):
         by_then = [one for one in owed if one.mark <= end]
         for how, image in mixes(record.disk(end), most, seed):
-            if not any(name.endswith(b"/station.db") for name in image) and not by_then:
-                continue
+            if not by_then and not any(name.endswith(b"/station.db") for name in image):
+                continue  # there is no store yet
             after = After(program, desk.path("agreements.toml"), desk.folder + ".after", image)
             tally.take(f"power lost at {end} of {record.ends[-1]}, {how}", after.lacks(by_then))
     return tally

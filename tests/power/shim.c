@@ -1,17 +1,20 @@
-/* Writes down each change that a program makes to the files of a store, and fails syncs of its choice (LD_PRELOAD). tests/power.py loads it,
-   and rebuilds from the record what a disk may have after a loss of power. Of the environment:
+/* Records each change that a program makes to the files of a store, and makes some of its syncs fail (LD_PRELOAD). tests/power.py loads it, and
+   works out from the record what a disk may hold after a loss of power. Its settings come from the environment:
 
-   POWER_STORE   the path that the files' paths begin with; the folder that it is in counts as one of the files, its syncs are records too
+   POWER_STORE   the path that the paths of the files begin with; the syncs of their folder are recorded and counted too
    POWER_TRACE   the file that the records are appended to
-   POWER_COUNT   a file of 8 bytes, the number of syncs so far, counted over all processes that have it
-   POWER_FAILS   the syncs that fail by EIO, counted from 1, with commas between them
-   POWER_HOW     what a failed sync does: `keep`, the system goes on to show what was written; `drop`, it shows what is on the disk, without the
-                 writes since the file's last sync; `kill`, the process dies; `lie`, from the first of POWER_FAILS on a sync says 0, and nothing
-                 was synced; `anew` is `keep`, and a file is recorded as written anew as a whole when the program has the system drop its pages,
-                 as it does when it opens a store: so it would be if the program did that
+   POWER_COUNT   a file of 8 bytes: the number of syncs so far, of all processes that share the file
+   POWER_FAILS   the syncs that fail with EIO, counted from 1 and separated by commas
+   POWER_HOW     what happens at a failed sync:
+                 keep   the program goes on, and reads show what it wrote
+                 drop   the program goes on, and reads show the file as it was at its last sync
+                 kill   the program is killed
+                 lie    from the first of POWER_FAILS on, syncs return 0 and nothing is synced
+                 anew   as keep; and when the program asks for the pages of a file to be dropped, as it does when it opens a store, the file is
+                        recorded as written anew as a whole
 
-   An answer (bytes for standard output or a socket) is a record too, made before it is given.
-   A sync that doesn't fail does nothing: the record alone says what is on the disk. */
+   Bytes for standard output or a socket are recorded as an answer before they are passed on. A sync that succeeds does nothing: the record says
+   what is on the disk. */
 #define _GNU_SOURCE
 #include <errno.h>
 #include <fcntl.h>
@@ -31,14 +34,14 @@
 
 enum { FILES = 65536, DEEP = 900 };
 
-/* A record: this, then a text of `name` bytes and one of `data` bytes. */
+/* The head of a record; `name` bytes of a path and `data` bytes of content follow it. */
 struct record {
     char kind, told, made, unused;
     int32_t process, file, name;
     int64_t at, data;
 } __attribute__((packed));
 
-/* What a write changed: the bytes that were there, and how long the file was. */
+/* What a write replaced: the bytes that were there before, and the length of the file. */
 struct undo {
     struct undo *before;
     int64_t at, count, length;
@@ -68,7 +71,7 @@ __attribute__((constructor)) static void begin(void)
     }
     count = place;
     syscall(SYS_close, file);
-    file = syscall(SYS_fcntl, trace, F_DUPFD_CLOEXEC, DEEP); /* the program's numbers are those that it has without the shim */
+    file = syscall(SYS_fcntl, trace, F_DUPFD_CLOEXEC, DEEP); /* so that the program gets the descriptors that it gets without the shim */
     syscall(SYS_close, trace);
     trace = file;
     stem = strlen(store);
@@ -82,7 +85,7 @@ static int is_how(const char *name)
     return !strcmp(how, name);
 }
 
-/* The absolute path of that file in `to`; whether it is one of the store's. */
+/* Writes the absolute path into `to`. Returns whether it is a file of the store or the folder. */
 static int is_ours(const char *path, char *to)
 {
     char here[PATH_MAX];
@@ -162,7 +165,7 @@ static int ours(int file)
     return file >= 0 && file < FILES && is_kept[file];
 }
 
-/* Keeps what a write is going to change, for a failed sync that drops it. */
+/* Saves the bytes that a write is going to replace, for `drop`. */
 static void keep(int file, int64_t at, int64_t length)
 {
     struct stat found;
@@ -176,7 +179,7 @@ static void keep(int file, int64_t at, int64_t length)
     undone[file] = top;
 }
 
-/* Takes back what was written since the last sync. */
+/* Undoes the writes since the last sync of the file. */
 static void drop(int file)
 {
     for (struct undo *top = undone[file]; top; top = top->before) {
@@ -253,7 +256,7 @@ ssize_t writev(int file, const struct iovec *parts, int many)
     return all;
 }
 
-/* A length that is set counts as on the disk at once: what is taken back later leaves it as it is. */
+/* Notes a new length. It counts as on the disk at once, so that undoing earlier writes doesn't change it. */
 static void cut(int file, int64_t length)
 {
     for (struct undo *top = undone[file]; top; top = top->before) {

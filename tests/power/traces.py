@@ -1,11 +1,13 @@
-"""The record of a store's files that shim.c writes, and what a disk may have of them after a loss of power. Used by power.py.
+"""The record of a store's files that shim.c makes, and what the disk may hold after a loss of power. Used by power.py.
 
-The model is that of PostgreSQL's trouble with fsync. A write is on the disk once a later sync of its file has succeeded. A failed sync marks all
-that wasn't on the disk as clean: no later sync writes it, and reads go on to see it. After the loss each of these writes is there or isn't, and so
-is each that no sync followed; only a later write of the same bytes, with a sync of its own, brings them there for sure. That a file is made, renamed,
-removed or gets another length is on the disk at once, which is the mildest that a disk can do: the model looks for lost bytes, not for lost names.
+The model is the one that PostgreSQL arrived at after its trouble with fsync. A write is on the disk once a later sync of the same file has succeeded.
+A failed sync marks as clean everything that wasn't on the disk yet: reads still show it, and no later sync writes it. After the loss of power each of
+these writes is there or isn't. The same holds for each write that no sync followed. Bytes that a failed sync held are certain to be on the disk only
+once they are written again and synced. Making, renaming or removing a file, and setting its length, take effect on the disk at once. A real disk may
+be less kind there; this trial is about lost bytes and not about lost names.
 """
 import bisect
+import itertools
 import os
 import random
 import struct
@@ -18,10 +20,10 @@ PENDING, DURABLE, DROPPED = range(3)
 class Write:
     """A write of a file, and whether it is on the disk."""
 
-    __slots__ = ("at", "data", "state")
+    __slots__ = ("turn", "at", "data", "state")
 
-    def __init__(self, at, data):
-        self.at, self.data, self.state = at, data, PENDING
+    def __init__(self, turn, at, data):
+        self.turn, self.at, self.data, self.state = turn, at, data, PENDING
 
 
 class Length:
@@ -34,13 +36,13 @@ class Length:
 
 
 class Disk:
-    """The files by their names, and what was done to each, as a record goes on."""
+    """The files by their paths, and the changes to each so far."""
 
     def __init__(self):
-        self.files, self.open, self.names, self.failed = {}, {}, {}, []
+        self.files, self.open, self.names, self.failed, self.turns = {}, {}, {}, [], itertools.count()
 
     def take(self, kind, told, made, process, file, name, at, data):
-        """Takes the next record in."""
+        """Applies the next record."""
         handle = process, file
         if kind == b"o":
             if made or name not in self.files:
@@ -49,11 +51,11 @@ class Disk:
                 self.files[name].append(Length(0))
             self.open[handle], self.names[handle] = self.files[name], os.path.basename(name.decode())
         elif kind == b"w":
-            self.open[handle].append(Write(at, data))
+            self.open[handle].append(Write(next(self.turns), at, data))
         elif kind == b"t":
             self.open[handle].append(Length(at))
         elif kind == b"s":
-            self.sync(self.open.get(handle, []), chr(told))  # of the folder nothing is kept
+            self.sync(self.open.get(handle, []), chr(told))  # there are no changes to the folder
             if told != ord("0"):
                 self.failed.append(self.names[handle] if handle in self.open else "the folder")
         elif kind == b"c":
@@ -65,7 +67,7 @@ class Disk:
 
     @staticmethod
     def sync(changes, how):
-        """A sync: `0` succeeded, `f` failed, `d` failed and took the writes back, `l` said that it succeeded."""
+        """Applies a sync: `0` succeeded, `f` failed, `d` failed and the writes were undone, `l` only said that it succeeded."""
         if how == "d":
             changes[:] = [change for change in changes if change.state != PENDING]
         elif how != "l":
@@ -74,16 +76,16 @@ class Disk:
                     change.state = DURABLE if how == "0" else DROPPED
 
     def unsure(self):
-        """The writes that are on the disk or aren't, in order, of all files that have a name."""
-        return [change for name in sorted(self.files) for change in shown(self.files[name])]
+        """The writes of which nobody knows whether they are on the disk, in order, for all files that still exist."""
+        return sorted((change for changes in self.files.values() for change in shown(changes)), key=lambda change: change.turn)
 
     def image(self, has=None):
-        """The files' bytes by their names. `has` tells of a write that is unsure which of its pages are there; without it all are."""
+        """The bytes of each file by its path. `has` returns the pieces of an unsure write that are on the disk; without it all writes are."""
         return {name: bytes_of(changes, has) for name, changes in self.files.items()}
 
 
 def shown(changes):
-    """The writes that are unsure, without those whose place a later change has taken for sure."""
+    """The unsure writes of a file, without those that a later change has certainly replaced."""
     found, later = [], []
     for change in reversed(changes):
         if isinstance(change, Length):
@@ -96,7 +98,7 @@ def shown(changes):
 
 
 def bytes_of(changes, has):
-    """The bytes that a file has after these changes."""
+    """The bytes of a file after these changes."""
     found = bytearray()
     for change in changes:
         if isinstance(change, Length):
@@ -111,7 +113,7 @@ def bytes_of(changes, has):
 
 
 def pages_of(change):
-    """The pieces of a write that lie in one page each."""
+    """The pieces of a write, one for each page that it touches."""
     at, pieces = change.at, []
     while at < change.at + len(change.data):
         end = min((at // PAGE + 1) * PAGE, change.at + len(change.data))
@@ -141,7 +143,7 @@ class Record:
             raise ValueError("the trace ends in a record")
 
     def answered(self, place):
-        """Where an answer that had come by that place of the trace was given at the latest."""
+        """The place of the trace at which an answer was given at the latest that had arrived by this place."""
         return self.answers[bisect.bisect_right(self.answers, place) - 1]
 
     def failed(self):
@@ -153,7 +155,7 @@ class Record:
         return [end for record, end in zip(self.records, self.ends) if record[0] == b"s" and record[1] != ord("0")]
 
     def disk(self, end):
-        """The disk once the records up to that place were made."""
+        """The disk after the records up to that place."""
         disk = Disk()
         for record, place in zip(self.records, self.ends):
             if place > end:
@@ -163,29 +165,28 @@ class Record:
 
 
 def choices(count, most, dice):
-    """So many sets at most of the writes that are there, of so many that are unsure: all, where they are few; else none, all, each beginning,
-    each without one, each one alone, and random ones."""
-    if 2 ** count <= most:
+    """Sets of the unsure writes that reached the disk, `most` at most: all sets if there are few writes. Otherwise none, all, all but the last, and
+    the last alone; then the first few, all but one, one alone, and random sets, in turn."""
+    if 2 ** min(count, 10) <= most:
         return [{at for at in range(count) if mask >> at & 1} for mask in range(2 ** count)]
     every = set(range(count))
     told = [set(), every, set(range(count - 1)), {count - 1}]
-    middle = [set(range(at)) for at in range(1, count - 1)] + [every - {at} for at in range(count)] + [{at} for at in range(count)]
-    dice.shuffle(middle)
-    rest = most - len(told)
-    told += middle[:rest - rest // 3]
     while len(told) < most:
-        told.append({at for at in range(count) if dice.random() < 0.5})
+        one = dice.randrange(count)
+        for there in (set(range(one)), every - {one}, {one}, {at for at in every if dice.random() < 0.5}):
+            if there not in told:
+                told.append(there)
     return told[:most]
 
 
 def mixes(disk, most, seed):
-    """So many images at most that the disk may have: each is told by a text, and has the files' bytes. The last third is torn within writes."""
+    """Yields images that the disk may have, `most` at most, each with a text that describes it. In the last ones writes are torn between pages."""
     dice, unsure = random.Random(seed), disk.unsure()
     if not unsure:
-        yield "nothing is unsure", disk.image()
+        yield "no write is unsure", disk.image()
         return
     order = {id(change): at for at, change in enumerate(unsure)}  # what isn't in it is hidden by later changes
-    whole = most - most // 3 if any(len(pages_of(change)) > 1 for change in unsure) else most
+    whole = most - most // 4 if any(len(pages_of(change)) > 1 for change in unsure) else most
     for there in choices(len(unsure), whole, dice):
         yield f"{sorted(there)} of {len(unsure)} writes", disk.image(lambda change: [(change.at, change.data)] if order.get(id(change)) in there else [])
     for turn in range(most - whole):
@@ -193,7 +194,7 @@ def mixes(disk, most, seed):
 
 
 def lay_out(image, folder):
-    """Writes the files of an image into a folder that is there."""
+    """Writes the files of an image into an existing folder."""
     for name, text in image.items():
         with open(os.path.join(folder, os.path.basename(name.decode())), "wb") as file:
             file.write(text)
