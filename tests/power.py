@@ -1,26 +1,28 @@
-"""Fails each of the first syncs of a loaded station, lets it go on, and loses the power then. tests/power.sh runs it, outside the gate.
+"""Makes each of the first syncs of a loaded station fail, lets the station go on, and then loses the power. tests/power.sh runs it, outside the gate.
 
     tests/power.sh [--program FILE] [--syncs 200] [--mixes N] [CASE ...]
 
-    run           posts, some at once, and submits to `run`, which sends them; what was refused is asked again until it is answered
-    run-again     the same; three syncs fail in succession
-    run-twice     the same; another sync fails soon afterwards, one of those of the next open, say
-    run-died      the same; the program is killed at the failed sync, and started again
-    run-dropped   the same; after the failed sync the system shows what is on the disk, without what was written
-    post          `post` and `submit`, a process for each
-    post-again, post-twice, post-died, post-dropped   as those of `run`
-    send          `submit` and `send` in turn, a process for each
-    send-died     the same, killed at the failed sync
+    run           posts, some at once, and submits to `run`, which sends the documents; refused requests are repeated until they are answered
+    run-again     the same, and three syncs in succession fail
+    run-twice     the same, and another sync fails soon after the first: one of those of the next open, for example
+    run-died      the same, and the program is killed at the failed sync and started again
+    run-dropped   the same, and after the failed sync reads show what is on the disk instead of what was written
+    post          `post` and `submit`, one process for each request
+    post-again, post-twice, post-died, post-dropped   the same variants of `post`
+    send          `submit` and `send`, and sometimes `post`, one process for each
+    send-died     the same, and the program is killed at the failed sync
     serve         posts to `serve`
-    control       a disk that lies: `run` and `post` must be found to have lost what they answered; and files that count as written anew at each
-                  open, as if the program did that: nothing must be found then
+    control       a disk that lies: losses must be found in `run` and `post`. And a program that, at each open, writes all anew that it finds:
+                  no loss must be found
 
-In each case sync 1 fails in the first load, sync 2 in the second, and so on. A shim (power/shim.c) fails it and writes down what the program does to
-its files. From that record power/traces.py makes the disks that there may be after the loss: what the failed sync held is there, or isn't, or some of
-it is, and so is what no sync followed. Over each disk `list in`, `list out` and `verify` must find all that was answered, sent and settled by then.
+Each case has one load for each sync: sync 1 fails in the first load, sync 2 in the second, and so on. A shim (power/shim.c) makes the sync fail and
+records what the program does to its files. From that record power/traces.py rebuilds the disks that are possible after the loss of power: the writes
+that the failed sync held are there, or aren't, or some of them are, and the same goes for the writes that no sync followed. On each disk `list in`,
+`list out` and `verify` must find everything that had been answered, sent and settled before the loss.
 
-Each case prints a line, and one before it for each sync after which something was lost; the status is 1 where there is one. It needs gcc and nm. The
-program is ./as2desk, or the file that --program names.
+Each case prints one line, and before it a line for each load in which something was lost, up to a limit. The status is 1 if anything was lost. The
+trial needs gcc and nm. The program is ./as2desk, or the file that --program names. --syncs 200 takes some 20 minutes on four idle cores, and twice
+as long on busy ones; `--step 5` tries every fifth sync.
 """
 import argparse
 import collections
@@ -41,9 +43,9 @@ import loads
 import losses
 from station import STARTER, Differences, room
 
-# which syncs fail, by the first of them
+# the syncs that fail, by the first of them
 ONCE, AGAIN, TWICE = (lambda first: (first,)), (lambda first: (first, first + 1, first + 2)), (lambda first: (first, first + 1 + first * 7 % 24))
-# the load, what a failed sync does, and which fail
+# the load, what happens at a failed sync, and which syncs fail
 CASES = {
     "run": (loads.Runs, "keep", ONCE), "run-again": (loads.Runs, "keep", AGAIN), "run-twice": (loads.Runs, "keep", TWICE),
     "run-died": (loads.Runs, "kill", ONCE), "run-dropped": (loads.Runs, "drop", ONCE), "post": (loads.Commands, "keep", ONCE),
@@ -53,29 +55,31 @@ CASES = {
 }
 CONTROLS = [(loads.Runs, "lie"), (loads.Commands, "lie"), (loads.Runs, "anew"), (loads.Commands, "anew")]
 CONTROLLED = (61, 80, 100, 127)  # the syncs of the controls
-SHOWN = 12  # lines of a case at most
-# what would change a file without the shim's knowing
-UNSEEN = {"mmap", "mmap64", "pwritev", "pwritev64", "pwritev2", "sendfile", "sendfile64", "copy_file_range", "fallocate", "fallocate64", "posix_fallocate",
-          "truncate", "truncate64", "link", "linkat", "renameat2", "syscall", "sync", "syncfs", "sync_file_range", "msync", "dup", "dup2", "dup3", "fopen",
-          "creat", "splice"}
+SHOWN = 12  # lines of a case, at most
+# functions that change files and that the shim doesn't see
+UNSEEN = {
+    "mmap", "mmap64", "pwritev", "pwritev64", "pwritev2", "sendfile", "sendfile64", "copy_file_range", "fallocate", "fallocate64", "posix_fallocate",
+    "truncate", "truncate64", "link", "linkat", "renameat2", "syscall", "sync", "syncfs", "sync_file_range", "msync", "dup", "dup2", "dup3", "fopen",
+    "creat", "splice",
+}
 
 
 def words():
-    """The words of the command line."""
+    """The arguments of the command line."""
     asked = argparse.ArgumentParser(description=__doc__.splitlines()[0])
     asked.add_argument("cases", nargs="*", metavar="CASE", choices=[*CASES, "control", []], help=", ".join([*CASES, "control"]))
     asked.add_argument("--program", default=STARTER)
-    asked.add_argument("--syncs", type=int, default=200, help="how many syncs are made to fail, each in a load of its own")
-    asked.add_argument("--first", type=int, default=1, help="the first of them")
-    asked.add_argument("--step", type=int, default=1, help="2 leaves out every other one")
-    asked.add_argument("--mixes", type=int, default=10, help="disks at most for each moment at which the power is lost")
-    asked.add_argument("--jobs", type=int, default=os.cpu_count(), help="loads at once")
+    asked.add_argument("--syncs", type=int, default=200, help="number of syncs that are made to fail, each in a load of its own")
+    asked.add_argument("--first", type=int, default=1, help="the first sync that fails")
+    asked.add_argument("--step", type=int, default=1, help="5 tries every fifth sync")
+    asked.add_argument("--mixes", type=int, default=10, help="disks for each moment at which the power is lost, at most")
+    asked.add_argument("--jobs", type=int, default=os.cpu_count(), help="number of loads at once")
     asked.add_argument("--seed", type=int, default=1)
     return asked.parse_args()
 
 
 def resolved(program, folder):
-    """The program's own file, if a script starts it: the shim goes into the program alone."""
+    """The program's own file, in case a script starts it: the shim is loaded into the program only."""
     with open(program, "rb") as file:
         if file.read(4) == b"\x7fELF":
             return program
@@ -91,13 +95,13 @@ def resolved(program, folder):
 
 
 def unseen(program):
-    """What the program calls that the shim doesn't see."""
+    """The functions that the program calls and the shim doesn't see."""
     table = subprocess.run(["nm", "-D", "--undefined-only", program], capture_output=True, check=True, text=True).stdout
     return sorted(UNSEEN & {line.split()[-1].split("@")[0] for line in table.splitlines() if line.strip()})
 
 
 class Trial:
-    """The program, the shim, and the folder for all loads."""
+    """The program, the shim, and a folder for the loads."""
 
     def __init__(self, given, folder, differences):
         self.given, self.folder, self.differences = given, folder, differences
@@ -106,7 +110,7 @@ class Trial:
         differences.expect("functions that the shim doesn't see", unseen(self.program), [])
 
     def load(self, name, kind, how, syncs):
-        """One load and its losses of power: what came of them."""
+        """Runs one load and loses the power at some of its moments. Returns the tally."""
         with tempfile.TemporaryDirectory(prefix=f"{name}-{syncs[0]}-", dir=self.folder) as folder:
             desk = os.path.join(folder, "desk")
             load = kind(self.program, desk, self.shim, syncs, how)
@@ -116,14 +120,14 @@ class Trial:
             return losses.lose(self.program, load.desk, record, owed, self.given.mixes, self.given.seed * 1000 + syncs[0])
 
     def loads(self, name, kind, how, turns):
-        """The loads whose syncs are these, some at once; each as its syncs, whether they came, and its tally, or the fault that broke it off."""
+        """Runs a load for each of `turns`, some at once. Yields its first failing sync, the fault that broke it off or None, and its tally."""
         with concurrent.futures.ThreadPoolExecutor(self.given.jobs) as workers:
             begun = {workers.submit(self.load, name, kind, how, syncs): syncs for syncs in turns}
             for one in concurrent.futures.as_completed(begun):
                 yield begun[one][0], one.exception(), None if one.exception() else one.result()
 
     def case(self, name):
-        """Fails each sync in turn; what is told of it."""
+        """Makes each sync fail in turn. Returns the text of the case's line."""
         kind, how, fails = CASES[name]
         turns = [fails(first) for first in range(self.given.first, self.given.first + self.given.syncs, self.given.step)]
         tallies, shown = [], []
@@ -142,7 +146,7 @@ class Trial:
         return summary(turns, tallies)
 
     def control(self):
-        """A disk that lies, whatever the program does: that it has lost what was answered must be found. And a program that loses nothing."""
+        """Runs the loads in which losses are certain, and those in which there can be none. Returns the text of the case's line."""
         told = []
         for kind, how in CONTROLS:
             found = list(self.loads(f"control-{how}", kind, how, [(first,) for first in CONTROLLED]))
@@ -155,13 +159,13 @@ class Trial:
 
 
 def counted(tallies):
-    """How many syncs failed in these loads, by their files."""
+    """The number of failed syncs of these loads, by file."""
     failed = collections.Counter(name for tally in tallies for name in tally.failed)
     return ", ".join(f"{count} of {name}" for name, count in sorted(failed.items())) or "none"
 
 
 def summary(turns, tallies):
-    """What is told of so many loads."""
+    """The text about these loads."""
     lossy = [tally for tally in tallies if tally.lossy]
     disks, lacking = sum(tally.mixes for tally in tallies), sum(tally.lossy for tally in tallies)
     told = f"{len(turns)} loads, failed syncs: {counted(tallies)}; {lacking} of {disks} disks lack something"
@@ -169,7 +173,7 @@ def summary(turns, tallies):
 
 
 def tried(trial, name):
-    """Tries a case; whether all was as wanted."""
+    """Tries a case. Returns whether all was as wanted."""
     before, began = len(trial.differences.found), time.monotonic()
     told = trial.control() if name == "control" else trial.case(name)
     wrong = len(trial.differences.found) - before
@@ -179,7 +183,7 @@ def tried(trial, name):
 
 def main():
     given, differences = words(), Differences()
-    logging.getLogger("asyncio").setLevel(logging.CRITICAL)  # of partners that end while a station comes to them
+    logging.getLogger("asyncio").setLevel(logging.CRITICAL)  # it warns of connections to a partner that ends
     warnings.filterwarnings("ignore", message="coroutine .* was never awaited")
     with room() as shared, tempfile.TemporaryDirectory(prefix="power-", dir=shared) as folder:
         trial = Trial(given, folder, differences)

@@ -18,6 +18,7 @@ AFTER = 6  # turns after the last failed sync
 MOST = 400  # turns at most
 PATIENCE = 20  # seconds within which every request is answered in the end
 PAUSE = 0.02  # seconds between two attempts
+STOP = 40  # turns between two stops
 BIG = 60_000  # bytes of some documents: the log gets full during the load
 SERVED = 100_000  # connections of `serve`
 
@@ -61,7 +62,7 @@ class Load:
         self.partner = Partner("Buyer", self.answer, tries=50, retry=1)
         self.desk, self.last, self.owed, self.seen = Watched(program, folder, shim, self.partner), max(syncs), [], collections.Counter()
         self.desk.fails(syncs, how)
-        self.is_over = False
+        self.is_over, self.stops = False, syncs[0] % 2 == 0  # every other load stops the station now and then
 
     def answer(self, caller):
         """How the partner answers: with the receipt, at once. The try that it sees must be on record."""
@@ -205,7 +206,15 @@ class Runs(Load):
         output = self.asked("submit", "--from", "Supplier", "--to", "Buyer", "order", content=content)
         return None if output is None else int(output)
 
+    def stop(self):
+        """Stops the station if it runs. It is started again for the next request."""
+        self.asked("stop")
+        if self.station:
+            self.station.process.wait(PATIENCE)
+
     def turn(self, at):
+        if self.stops and at % STOP == STOP - 1:
+            self.stop()
         if at % 6 != 5:
             return super().turn(at)
         with concurrent.futures.ThreadPoolExecutor(3) as posters:

@@ -188,7 +188,8 @@ def mixes(disk, most, seed):
     order = {id(change): at for at, change in enumerate(unsure)}  # what isn't in it is hidden by later changes
     whole = most - most // 4 if any(len(pages_of(change)) > 1 for change in unsure) else most
     for there in choices(len(unsure), whole, dice):
-        yield f"{sorted(there)} of {len(unsure)} writes", disk.image(lambda change: [(change.at, change.data)] if order.get(id(change)) in there else [])
+        image = disk.image(lambda change: [(change.at, change.data)] if order.get(id(change)) in there else [])
+        yield f"{sorted(there)} of {len(unsure)} writes", image
     for turn in range(most - whole):
         yield f"torn, {turn}", disk.image(lambda change: [piece for piece in pages_of(change) if dice.random() < 0.5])
 
