@@ -14,7 +14,7 @@ ghost use Rattle.as2_front.specs.Rounds.{LosesDesk, PassesDesk};
 use crate::log::{Log, LogLine};
 use as2_agreement::Agreements;
 use as2_exchange::{Bytes, HttpAnswer, Next, StoreFault, TryAnswer};
-use as2_http::{Journal, identifier_told, name_told, respond};
+use as2_http::{Journal, identifier_told, respond};
 use as2_hub::{Desk, Replied, Reply};
 use as2_messages::{Form, Method, Refused, Request, Target, refusal, write_reply};
 use as2_records::{Records, Rounds};
@@ -252,9 +252,9 @@ fn begun_line(alloc: Global, request: &Request) -> LogLine {
         return LogLine::new(alloc, b"post -");
     }
     let mut line = LogLine::new(alloc, b"post ");
-    line.note(name_told(request.fields.value(b"as2-from")).as_bytes());
+    line.note_name(request.fields.value(b"as2-from"));
     line.note(b" -> ");
-    line.note(name_told(request.fields.value(b"as2-to")).as_bytes());
+    line.note_name(request.fields.value(b"as2-to"));
     line.note(b" ");
     line.note(identifier_told(request.fields.value(b"message-id")));
     line

@@ -1,7 +1,10 @@
 //! A line for each request that the station answers, for whoever looks on.
 
+ghost use Rattle.std.specs.Prelude.{◌<◌};
+
 use as2_exchange::{HttpAnswer, HttpBody};
-use as2_http::Journal;
+use as2_http::{Journal, name_told};
+use as2_text::{AsName, Once};
 use itoa::Buffer;
 use std::alloc::Global;
 use std::cell::RefCell;
@@ -44,6 +47,22 @@ impl Log {
     }
 }
 
+/// The hexadecimal digit of a number below 16.
+fn digit(number: u8) -> u8
+    requires { number < 16 }
+{
+    if number < 10 {
+        b'0' + number
+    } else {
+        b'a' + (number - 10)
+    }
+}
+
+/// Whether a byte stands for itself in a line: it prints, and is no quote and no backslash.
+fn is_plain(byte: u8) -> bool {
+    b'!' <= byte && byte <= b'~' && byte != b'"' && byte != b'\\'
+}
+
 /// A line that is put together. It is cut where there is no memory.
 #[derive(Drop)]
 pub(crate) struct LogLine {
@@ -63,6 +82,26 @@ impl LogLine {
     /// The line so far.
     pub(crate) fn text(&self) -> &[u8] {
         &self.text
+    }
+
+    /// Notes bytes as they were sent, with the number of each that isn't plain, as `\x20`.
+    fn note_sent(&mut self, bytes: &[u8]) {
+        for byte in bytes.iter().take(MOST_BEFORE) {
+            if is_plain(*byte) {
+                self.note(&[*byte]);
+            } else {
+                self.note(&[b'\\', b'x', digit(*byte / 16), digit(*byte % 16)]);
+            }
+        }
+    }
+
+    /// Notes the name that a field tells, as AS2 spells it (RFC 4130, section 6.2), or a dash. What was sent and is no name is noted as it was
+    /// sent.
+    pub(crate) fn note_name(&mut self, field: Once<'_>) {
+        match field {
+            Once::One(text) if AsName::parse(text).is_err() => self.note_sent(text),
+            field => self.note(name_told(field).as_bytes()),
+        }
     }
 
     /// Notes the status of an answer, and what it says.
