@@ -13,7 +13,8 @@
 # taken for the file's, even with the same bytes: both are sent. (The exception: the same bytes for the same partner within the very second in
 # which a run is stopped.)
 #
-# A file that is refused (TooLarge, say) goes to FOLDER/refused. A file whose number can't be learnt stays in FOLDER/begun for the next run.
+# A file that is refused (TooLarge, say) goes to FOLDER/refused. If it isn't known whether a file was taken, it stays in FOLDER/begun for the next
+# run; if the agreements or the names are wrong, it goes back to FOLDER.
 # Names that begin with a dot, or end in .part or .tmp, are left alone: write a file under such a name, and rename it when it is whole.
 # The status: 0 done; 1 somebody has to look at a file; otherwise the run ended early, and standard error says why.
 # hand-in.sh AGREEMENTS STORE ORGANIZATION PARTNER FOLDER [PROGRAM]
@@ -55,13 +56,17 @@ note() {
 # Which file the store is: a copy that was put back is another one.
 identify() { if [ -e "$store" ]; then stat -L -c %i.%W "$store"; else echo none; fi; }
 
-# Finds in `next` the least number that the next document may have. Only a store whose file isn't the one of STORE.last is listed.
+# Finds in `next` the least number that the next document may have, and in `handed` the last one that was printed. Only a store whose file isn't
+# the one of STORE.last is listed.
 learn() {
-    identity=$(identify)
+    identity=$(identify) number='' of='' end=''
+    [ ! -e "$last" ] || read -r number of end < "$last" || :
+    { is_number "$number" && [ "$end" = end ]; } || number=0 of=''
+    handed=$number
     if [ "$identity" = none ]; then
         next=1
-    elif [ -e "$last" ] && read -r number of end < "$last" && [ "$of $end" = "$identity end" ] && is_number "$number"; then
-        next=$((number + 1))
+    elif [ "$identity" = "$of" ]; then
+        next=$((handed + 1))
     else
         listing=$(station list out) || exit
         number=$(printf '%s\n' "$listing" | awk 'NF { last = $1 } END { print last }')
@@ -82,8 +87,8 @@ move() {
 
 # The file that is begun was taken as document `number`.
 taken() {
-    [ "$number" -ge "$next" ] || { say "document $number was handed in after document $((next - 1)): an older store is in place"; status=1; }
-    identity=$(identify)
+    [ "$number" -gt "$handed" ] || { say "document $number was handed in after document $handed: an older store is in place, or another one"; status=1; }
+    identity=$(identify) handed=$number
     note "$last" "$number $identity end"
     move "$at/sent/$number-$name"
     next=$((number + 1))
@@ -94,25 +99,35 @@ submit() {
     ended=0
     said=$(station --moment "$moment" submit --from "$from" --to "$to" "$at/begun/$name" 2>&1) || ended=$?
     number=$(printf '%s\n' "$said" | sed -n '/^[0-9][0-9]*$/p')
-    refusal=$(printf '%s\n' "$said" | sed -n 's/^refused: //p')
     printf '%s\n' "$said" | sed '/^[0-9]*$/d' >&2
     if [ "$ended" -eq 0 ] && is_number "$number"; then
         taken
         return
     fi
-    # These say that nothing was recorded. (CannotRead may be of the agreements.)
-    case $ended.$refusal in
-        1.TooLarge | 1.UnknownOrganization | 1.UnknownPartner) refused=yes ;;
-        1.CannotRead) if cat "$at/begun/$name" > /dev/null 2>&1; then refused=no; else refused=yes; fi ;;
-        *) refused=no ;;
+    # What says that nothing was recorded is of the file, or of how the station was asked. All else leaves it open.
+    case $ended.$said in
+        '1.refused: TooLarge'* | '1.refused: UnknownOrganization'* | '1.refused: UnknownPartner'*) outcome=refused ;;
+        '1.refused: CannotRead'*) if cat "$at/begun/$name" > /dev/null 2>&1; then outcome=unasked; else outcome=refused; fi ;;
+        '1.refused: OtherAgreements'* | '1.agreements: '* | 2.*) outcome=unasked ;;
+        *) outcome=open ;;
     esac
-    if [ "$refused" = no ]; then
-        say "whether $name was taken isn't known: it lies in $at/begun, and the next run looks"
-        case $ended.$refusal in 0.* | 1.NoStation) exit 2 ;; *) exit "$ended" ;; esac
+    if [ "$outcome" = refused ]; then
+        move "$at/refused/$name"
+        say "$name is refused, and lies in $at/refused"
+        status=1
+        return
     fi
-    move "$at/refused/$name"
-    say "$name is refused, and lies in $at/refused"
-    status=1
+    if [ "$outcome" = unasked ]; then
+        mv -n -T "$at/begun/$name" "$at/$name" || exit 2
+        # (otherwise another file has come under its name)
+        if [ ! -e "$at/begun/$name" ]; then
+            on_disk "$at" "$at/begun" || exit 2
+            rm "$begun"
+            exit "$ended"
+        fi
+    fi
+    say "whether $name was taken isn't known: it lies in $at/begun, and the next run looks"
+    case $ended.$said in 0.* | '1.refused: NoStation'*) exit 2 ;; *) exit "$ended" ;; esac
 }
 
 # What the page of a document says; a name is freed of its quotes.
@@ -133,7 +148,7 @@ search() {
     date=$(date -u -d "@$moment" '+%a, %d %b %Y %H:%M:%S GMT') || exit 2
     number=$next gap=none
     while :; do
-        { rm -rf "$look" && mkdir "$look"; } || fail "$look can't be made"
+        { rm -rf "$look" && mkdir -m 700 "$look"; } || fail "$look can't be made"
         ended=0
         said=$(station evidence "$number" --out "$look" 2>&1 > /dev/null) || ended=$?
         case $ended.$said in
@@ -169,7 +184,7 @@ if [ -e "$begun" ]; then
     { [ "$form $end" = 'hand-in 2 end' ] && is_number "$next" && is_number "$moment"; } || fail "$begun is damaged, or an earlier hand-in.sh made it"
     [ -d "$at/begun" ] || fail "$at/begun isn't there, and $name was begun: see $begun"
     if [ -f "$at/begun/$name" ]; then
-        identity=$(identify)
+        identity=$(identify) handed=$((next - 1))
         [ "$was" = none ] || [ "$was" = "$identity" ] || fail "$name was begun with another store than this one: see $begun"
         if search; then
             taken
