@@ -186,14 +186,15 @@ if [ -e "$begun" ]; then
     if [ -f "$at/begun/$name" ]; then
         identity=$(identify) handed=$((next - 1))
         [ "$was" = none ] || [ "$was" = "$identity" ] || fail "$name was begun with another store than this one: see $begun"
-        if search; then
+        if search; then found=yes; else found=no; fi
+        rm -rf "$look"
+        if [ "$found" = yes ]; then
             taken
         else
             next=$number
             begin
             submit
         fi
-        rm -rf "$look"
     else
         # (it wasn't moved yet, or was moved to where it belongs)
         rm "$begun"

@@ -189,11 +189,14 @@ class HandIn:
                 file.truncate(1 << 21)
         self.words = [str(EXAMPLES / "hand-in.sh"), self.agreements, self.store, "Supplier", "Buyer", name, os.path.abspath("steps/desk")]
 
-    def submit(self, content):
-        """Submits a document by hand, a while ago by its clock."""
+    def submit(self, content, lock=True):
+        """Submits a document by hand, a while ago by its clock; under the lock, since a command may have outlived its round."""
         if content is not None:
             pathlib.Path("hand.edi").write_bytes(content)
-            desk(self.agreements, self.store, "--moment", str(int(time.time()) - 100), "submit", "--from", "Supplier", "--to", "Buyer", "hand.edi")
+            words = [PROGRAM, "--agreements", self.agreements, "--store", self.store, "--moment", str(int(time.time()) - 100), "submit", "--from", "Supplier",
+                     "--to", "Buyer", "hand.edi"]
+            lock = ["flock", "-w", "60", os.path.join(os.path.dirname(self.store), "station.lock")] if lock else []
+            subprocess.run([*lock, *words], check=True, stdout=subprocess.DEVNULL)
             self.by_hand.append(content)
 
     def good(self):
@@ -213,7 +216,7 @@ class HandIn:
         left = [file.name for file in folder.rglob("[!.]*") if file.is_file() and file.parent.name not in ("sent", "refused")]
         refused = [file.name for file in (folder / "refused").iterdir()]
         return (len(sent) == len(self.files) and sorted(rest.values()) == sorted(self.by_hand) and not left
-                and refused == [LARGE] * self.large and not os.path.exists(self.store + ".begun"))
+                and refused == [LARGE] * self.large and not os.path.exists(self.store + ".begun") and not os.path.exists(self.store + ".look"))
 
 
 def hand_in(content, station=False, first=None):
@@ -239,13 +242,13 @@ def hand_in(content, station=False, first=None):
                 if status == 0 or status == 1 and it.large:  # the refused file makes it 1
                     break
             it.submit(content)
-            return run(it.words)[::2] == (0, []) and status <= 1 and it.good(), made
+            return run(it.words)[0] == 0 and status <= 1 and it.good(), made
         finally:
             if running:
                 desk(it.agreements, it.store, "stop")
                 running.wait()
             for file in pathlib.Path(".").glob(name + "*.db*"):
-                file.unlink()
+                file.unlink() if not file.is_dir() else shutil.rmtree(file)
     return go
 
 
@@ -418,7 +421,7 @@ def three_at_once():
     environment = dict(os.environ, PATH=os.path.abspath("steps") + ":" + os.environ["PATH"], AT="0", HOW="")
     rounds = [subprocess.Popen(it.words, env=environment, stderr=subprocess.DEVNULL) for _ in range(3)]
     for _ in range(10):
-        it.submit(b"1")
+        it.submit(b"1", lock=False)
     ended = [one.wait() for one in rounds]
     desk(it.agreements, it.store, "stop")
     running.wait()
