@@ -6,11 +6,17 @@ pub(crate) const LINKS: usize = 64;
 /// .. to one host and port.
 pub(crate) const LINKS_OF_HOST: usize = 16;
 
+/// .. to one that is known to hang.
+pub(crate) const LINKS_OF_HUNG: usize = 1;
+
 /// .. for receipts.
 pub(crate) const LINKS_FOR_RECEIPTS: usize = 32;
 
 /// Numbers that are looked at in one turn.
 pub(crate) const LOOKS: usize = 32;
+
+/// Tries that waited for a link and begin in one turn.
+pub(crate) const BEGINS: usize = 32;
 
 /// How many times as long as a sweep took it rests before the next one.
 pub(crate) const SWEEP_SHARE: u64 = 9;
@@ -27,12 +33,6 @@ pub(crate) const CONNECT: u64 = 10_000;
 /// How long what was refused is passed over, in milliseconds.
 pub(crate) const REFUSED: u64 = 60_000;
 
-/// How long what waits for a link is passed over where none ends before, in milliseconds.
-pub(crate) const CROWDED: u64 = 30_000;
-
-/// .. for a receipt, where it waits for a link that any receipt has.
-pub(crate) const RECEIPTS_CROWDED: u64 = 1_000;
-
 /// How long an address that was looked up is gone by, in milliseconds.
 pub(crate) const NAMED: u64 = 60_000;
 
@@ -45,11 +45,26 @@ pub(crate) const SLOW: u64 = 1_000;
 /// How long no other name that came in a post is looked up, in milliseconds.
 pub(crate) const BETWEEN: u64 = 1_000;
 
-/// Numbers that are passed over, at most.
+/// Receipts that are passed over at most, and documents likewise.
 pub(crate) const PASSED: usize = 8_192;
 
-/// .. that wait for a link to one host and port.
-pub(crate) const PASSED_OF_HOST: usize = 2_048;
+/// Documents that wait for a link, at most. The first one of a host may always wait.
+pub(crate) const DOCUMENTS_WAITING: usize = 131_072;
+
+/// .. to one host.
+pub(crate) const DOCUMENTS_OF_HOST: usize = 16_384;
+
+/// Receipts that do. Whoever posts can make them many.
+pub(crate) const RECEIPTS_WAITING: usize = 16_384;
+
+/// .. for a link to one host.
+pub(crate) const RECEIPTS_OF_HOST: usize = 2_048;
+
+/// Hosts that are remembered, at most. The agreements name 256 partners at most, so that there is always room for theirs.
+pub(crate) const HOSTS: usize = 1_280;
+
+/// .. of them that only receipts go to. Whoever posts names these.
+pub(crate) const HOSTS_OF_RECEIPTS: usize = 1_024;
 
 /// Names that are kept, at most.
 pub(crate) const KEPT: usize = 1_024;

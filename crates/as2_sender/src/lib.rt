@@ -3,13 +3,18 @@
 
 mod aims;
 mod bounds;
+mod choice;
+mod host;
 mod hosts;
+mod kinds;
 mod line;
 mod names;
 mod notes;
 mod passed;
 mod sender;
 mod sweep;
+mod waiting;
+mod walk;
 
 pub use hosts::Hosts;
 pub use line::LinkWaits;

@@ -1,6 +1,7 @@
 //! The socket of a link.
 
 use crate::bounds::CONNECT;
+use crate::kinds::Kind;
 use as2_links::Link;
 use as2_sending::LinkFault;
 use mio::event::Event;
@@ -45,10 +46,10 @@ pub(crate) enum Did {
 #[derive(Drop)]
 pub(crate) struct Line {
     stream: TcpStream,
-    /// The host and port that it is for.
-    pub host: String,
-    /// A receipt goes over it.
-    pub is_receipt: bool,
+    /// The place of the host that it is for.
+    pub host: usize,
+    /// The kind of what goes over it.
+    pub kind: Kind,
     phase: Phase,
     may_read: bool,
     may_write: bool,
@@ -94,11 +95,11 @@ fn connect_fault(error: &io::Error) -> LinkFault {
 
 impl Line {
     /// A connection that begins to be made.
-    pub(crate) fn new(stream: TcpStream, host: String, now: u64) -> Line {
+    pub(crate) fn new(stream: TcpStream, host: usize, kind: Kind, now: u64) -> Line {
         Line {
             stream,
             host,
-            is_receipt: false,
+            kind,
             phase: Phase::Connecting,
             may_read: false,
             may_write: false,

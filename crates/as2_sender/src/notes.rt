@@ -7,6 +7,10 @@ use as2_sending::{is_hinted, line};
 use as2_station::Became;
 use std::alloc::Global;
 
+/// What is said of a try whose outcome is not recorded: a receipt was asked for again by a repeat of its post, or a document was sent again by
+/// `resend`, while the last try was still open. It is due anew.
+const QUEUED_AGAIN: &str = "queued again meanwhile";
+
 /// The name of what is tried.
 fn subject(alloc: Global, what: Next) -> String {
     let text = match what {
@@ -80,6 +84,7 @@ fn note_became(log: &Log, alloc: Global, ended: &EndedTry, became: Became) {
 pub(crate) fn note_ended(log: &Log, alloc: Global, ended: &EndedTry) {
     match ended.said {
         Ok(Ok(became)) => note_became(log, alloc, ended, became),
+        Ok(Err(Refusal::NoOpenTry)) => note(log, alloc, ended.what, QUEUED_AGAIN),
         Ok(Err(reason)) => note_refused(log, alloc, ended.what, reason),
         Err(fault) => note_failed(log, alloc, ended.what, fault),
     }

@@ -1,23 +1,22 @@
 //! Sending beside all else.
 ghost use Rattle.as2_live.specs.Living.{LivesOn};
 
-use crate::aims::{Aim, authority_in, is_receipt};
-use crate::bounds::{
-    CROWDED, LINKS, LINKS_FOR_RECEIPTS, LINKS_OF_HOST, LOOKS, PIECE, RECEIPTS_CROWDED, REFUSED,
-    STEPS,
-};
+use crate::aims::{Target, authority_in};
+use crate::bounds::{BEGINS, LINKS, LOOKS, PIECE, REFUSED, STEPS};
 use crate::hosts::Hosts;
+use crate::kinds::{Kind, before};
 use crate::line::{Dialled, Did, Line, LinkWaits, is_wanting};
 use crate::names::{Found, Names};
 use crate::notes::{note_barred, note_ended, note_failed, note_refused};
 use crate::passed::Passed;
 use crate::sweep::Sweep;
-use as2_exchange::Next;
+use crate::waiting::{Waiter, Waiting};
+use as2_exchange::{Next, StoreFault};
 use as2_front::Log;
 use as2_links::LinkTable;
 use as2_live::{Live, TryBegun};
 use as2_records::{Records, Rounds};
-use as2_sending::LinkFault;
+use as2_sending::{LinkFault, Why};
 use as2_text::{Memory, Moment};
 use mio::event::Event;
 use mio::net::TcpStream;
@@ -32,6 +31,51 @@ const FIRST: usize = 1_000_000;
 pub fn link_of(token: Token) -> Option<usize> {
     let at = token.0.checked_sub(FIRST)?;
     if at < LINKS { Some(at) } else { None }
+}
+
+/// Whether a try of it may begin at this moment.
+fn is_due<K: Records>(live: &mut Live<'_, K>, what: Next, moment: Moment) -> bool
+    ensures lives { LivesOn K.shows live.old live.new }
+{
+    match live.next_behind(moment, Some(before(what))) {
+        Ok(Some(next)) => next == what,
+        _ => false,
+    }
+}
+
+/// Whether one might have begun the second before.
+fn was_due<K: Records>(live: &mut Live<'_, K>, what: Next, moment: Moment) -> bool
+    ensures lives { LivesOn K.shows live.old live.new }
+{
+    match Moment::new(moment.seconds().saturating_sub(1)) {
+        Some(moment) => is_due(live, what, moment),
+        None => false,
+    }
+}
+
+/// Begins to make a connection to that target. No byte of a request goes over it before its try has begun.
+fn dial(
+    rt: &HostRuntime,
+    at: usize,
+    target: Target,
+    what: Next,
+    occasion: &Occasion<'_>,
+) -> Dialled {
+    let mut stream = match TcpStream::connect(rt, target.address) {
+        Ok(stream) => stream,
+        Err(error) if is_wanting(&error) => return Dialled::Wanting,
+        Err(_) => return Dialled::Failed,
+    };
+    let _ = stream.set_nodelay(true);
+    let interest = Interest::READABLE | Interest::WRITABLE;
+    let token = Token(FIRST.saturating_add(at));
+    match occasion.registry.register(&mut stream, token, interest) {
+        Ok(()) => {
+            let kind = Kind::of(what);
+            Dialled::Line(Line::new(stream, target.host, kind, occasion.now))
+        }
+        Err(_) => Dialled::Wanting,
+    }
 }
 
 /// When something is done, and where it is noted.
@@ -56,11 +100,12 @@ pub struct Sender {
     names: Names,
     lines: Vec<Option<Line>>,
     passed: Passed,
-    /// What may have a link again that waited for one, the one that waited longest first.
-    woken: Vec<Next>,
+    waiting: Waiting,
     sweep: Sweep,
     /// The records failed as a try was to begin, and that was noted.
     has_failed: bool,
+    /// No try begins before the next look, since the system had no socket to give or the records failed.
+    is_paused: bool,
     /// No try begins any more.
     is_ending: bool,
     buffer: Vec<u8>,
@@ -81,9 +126,10 @@ impl Sender {
             names: Names::new(rt),
             lines,
             passed: Passed::new(alloc),
-            woken: Vec::new(alloc),
+            waiting: Waiting::new(alloc),
             sweep: Sweep::new(),
             has_failed: false,
+            is_paused: false,
             is_ending: false,
             buffer: Vec::from_elem(alloc, 0, PIECE)?,
         })
@@ -99,7 +145,8 @@ impl Sender {
         for line in self.lines.iter_mut() {
             *line = None;
         }
-        self.sweep.wake();
+        self.waiting.clear();
+        self.sweep = Sweep::new();
     }
 
     /// No try begins any more.
@@ -135,9 +182,19 @@ impl Sender {
         is_over || self.may_begin()
     }
 
-    /// A try may begin, where something is due.
+    /// Whether a link is free.
+    fn has_free_link(&self) -> bool {
+        self.lines.iter().any(|line| line.is_none())
+    }
+
+    /// Whether something that waits may have a link.
+    fn may_serve(&self) -> bool {
+        !self.is_paused && self.has_free_link() && self.waiting.is_ready()
+    }
+
+    /// Whether a try may begin, or something is to be looked at that may be due.
     fn may_begin(&self) -> bool {
-        !self.is_ending && !self.sweep.is_through && self.lines.iter().any(|line| line.is_none())
+        !self.is_ending && !self.is_paused && (!self.sweep.is_through() || self.may_serve())
     }
 
     /// Notes what the system says of the socket at a place.
@@ -219,12 +276,13 @@ impl Sender {
         }
     }
 
-    /// One turn: the tries end whose links are over, and what is due begins. No byte goes over a link in it.
+    /// One turn: the tries end whose links are over, what is due is looked at, and links are given to what waits. No byte goes over a link in it.
     pub fn turn<K: Records>(&mut self, live: &mut Live<'_, K>, occasion: &Occasion<'_>)
         ensures lives { LivesOn K.shows live.old live.new }
     {
         self.end_all(live, occasion);
-        self.begin_due(live, occasion);
+        self.look_on(live, occasion);
+        self.serve_all(live, occasion);
     }
 
     /// Ends each try whose link is over.
@@ -248,17 +306,12 @@ impl Sender {
         }
     }
 
-    /// The socket at a place is closed. What waited for a link to its host may have one.
-    fn close(&mut self, at: usize) {
-        self.sweep.wake();
-        let Some(seat) = self.lines.get_mut(at) else {
-            return;
-        };
-        if let Some(line) = seat.take() {
-            if let Some(what) = self.passed.take_waiting(line.host.as_str()) {
-                let _ = self.woken.push(what);
-            }
-        }
+    /// The socket at a place is closed. The place of the host that it was for, if there was one.
+    fn close(&mut self, at: usize) -> Option<usize> {
+        let line = self.lines.get_mut(at)?.take()?;
+        self.waiting.closed(line.host, line.kind);
+        self.is_paused = false;
+        Some(line.host)
     }
 
     /// The link at a place is over: what it brought is the outcome of its try.
@@ -271,89 +324,100 @@ impl Sender {
     )
         ensures lives { LivesOn K.shows live.old live.new }
     {
-        self.close(at);
+        let host = self.close(at);
         if let Some(ended) = live.end_try(at, occasion.moment, fault) {
+            self.learn(host, ended.why);
             note_ended(occasion.log, self.rt.alloc(), &ended);
         }
     }
 
-    /// Begins what is due, as far as there are links for it.
-    fn begin_due<K: Records>(&mut self, live: &mut Live<'_, K>, occasion: &Occasion<'_>)
+    /// Takes from a try whether its host hangs. One try that ran into its time limit is enough, since the next answer tells that the host is
+    /// there again: a host that answers loses little. Any whole answer is one, whatever it says. A connection that was refused or broke tells
+    /// neither.
+    fn learn(&mut self, host: Option<usize>, why: Why) {
+        let Some(host) = host else {
+            return;
+        };
+        match why {
+            Why::NoAnswer(LinkFault::Silent(_) | LinkFault::Slow(_) | LinkFault::NoConnection) => {
+                self.waiting.learn(host, true);
+            }
+            Why::NoAnswer(_) => {}
+            Why::Status(_) | Why::NoReceipt(_) => self.waiting.learn(host, false),
+        }
+    }
+
+    /// Looks at some of what is due, even while all links are taken: a host must be known to wait to get the next one.
+    fn look_on<K: Records>(&mut self, live: &mut Live<'_, K>, occasion: &Occasion<'_>)
         ensures lives { LivesOn K.shows live.old live.new }
     {
         for _ in 0..LOOKS {
-            if !self.may_begin() {
+            if self.is_ending || self.is_paused {
                 return;
             }
-            let Some(what) = self.next_due(live, occasion.moment) else {
-                self.sweep.end(occasion.now);
+            let Some(what) = self.sweep.next(live, occasion.moment, occasion.now) else {
                 return;
             };
-            self.begin_one(live, what, occasion);
+            self.look_at(live, what, occasion);
         }
     }
 
-    /// What has waited longest for a link, where none was opened for it meanwhile.
-    fn take_woken(&mut self, links: &LinkTable) -> Option<Next> {
-        if self.woken.is_empty() {
-            return None;
-        }
-        let what = self.woken.remove(0);
-        if links.is_open_for(what) {
-            return None;
-        }
-        Some(what)
-    }
-
-    /// What is due and wasn't looked at yet: receipts, and then documents.
-    fn next_due<K: Records>(&mut self, live: &mut Live<'_, K>, moment: Moment) -> Option<Next>
+    /// Gives free links to what waits for one.
+    fn serve_all<K: Records>(&mut self, live: &mut Live<'_, K>, occasion: &Occasion<'_>)
         ensures lives { LivesOn K.shows live.old live.new }
     {
-        if let Some(what) = self.take_woken(live.links()) {
-            return Some(what);
+        for _ in 0..BEGINS {
+            if self.is_ending || !self.may_serve() {
+                return;
+            }
+            if let Some(waiter) = self.waiting.take() {
+                self.serve(live, waiter, occasion);
+            }
         }
-        if self.sweep.is_past_receipts {
-            return self.next_document(live, moment);
-        }
-        let last = Some(Next::Receipt(self.sweep.receipt));
-        if let Ok(Some(Next::Receipt(number))) = live.next_behind(moment, last) {
-            self.sweep.receipt = number;
-            return Some(Next::Receipt(number));
-        }
-        self.sweep.is_past_receipts = true;
-        self.next_document(live, moment)
     }
 
-    /// The document that is due and wasn't looked at yet.
-    fn next_document<K: Records>(&mut self, live: &mut Live<'_, K>, moment: Moment) -> Option<Next>
+    /// Begins a try of what waited, if it is still due: meanwhile a receipt may have come, say.
+    fn serve<K: Records>(&mut self, live: &mut Live<'_, K>, waiter: Waiter, occasion: &Occasion<'_>)
         ensures lives { LivesOn K.shows live.old live.new }
     {
-        let last = Some(Next::Document(self.sweep.document));
-        if let Ok(Some(Next::Document(number))) = live.next_behind(moment, last) {
-            self.sweep.document = number;
-            return Some(Next::Document(number));
+        if is_due(live, waiter.what, occasion.moment) {
+            self.aim(live, waiter, occasion);
         }
-        None
     }
 
-    /// Begins a try of it, where a link may be opened for it. One that is still open is closed first, and nothing begins beside it.
-    fn begin_one<K: Records>(&mut self, live: &mut Live<'_, K>, what: Next, occasion: &Occasion<'_>)
+    /// Looks at what is due. If a link is open for it, that may be over; otherwise a try begins, or waits for a link.
+    fn look_at<K: Records>(&mut self, live: &mut Live<'_, K>, what: Next, occasion: &Occasion<'_>)
         ensures lives { LivesOn K.shows live.old live.new }
     {
-        if self.passed.holds(what, occasion.now) {
+        if self.passed.holds(what, occasion.now) || self.waiting.holds(what) {
             return;
         }
         if let Some(at) = live.links().place_for(what) {
-            let fault = self.fault_at(at, occasion.now);
-            self.finish(live, at, fault, occasion);
+            self.cut(live, at, what, occasion);
             return;
         }
         let Ok(address) = live.destination(what) else {
             return;
         };
-        let authority = authority_in(&address);
-        let aim = self.aim(what, authority, occasion.now);
-        self.begin_aimed(live, what, aim, authority, occasion);
+        self.seek(live, what, authority_in(&address), occasion);
+    }
+
+    /// Closes a link that is still open as its number is due again. It waits for the end of that second, since moments are whole seconds: a
+    /// try that began late in one has its number due again up to a second before `retry_seconds` are over. Nothing begins beside an open
+    /// link.
+    fn cut<K: Records>(
+        &mut self,
+        live: &mut Live<'_, K>,
+        at: usize,
+        what: Next,
+        occasion: &Occasion<'_>,
+    )
+        ensures lives { LivesOn K.shows live.old live.new }
+    {
+        if was_due(live, what, occasion.moment) {
+            let fault = self.fault_at(at, occasion.now);
+            self.finish(live, at, fault, occasion);
+        }
     }
 
     /// Why a link is closed whose number is due again: it brought no whole answer for so long.
@@ -364,97 +428,84 @@ impl Sender {
         }
     }
 
-    /// How many links go to that host and port.
-    fn links_to(&self, host: &str) -> usize {
-        self.lines
-            .iter()
-            .filter(|line| match line {
-                Some(line) => line.host.as_str() == host,
-                None => false,
-            })
-            .count()
-    }
-
-    /// How many links are for receipts.
-    fn links_for_receipts(&self) -> usize {
-        self.lines
-            .iter()
-            .filter(|line| match line {
-                Some(line) => line.is_receipt,
-                None => false,
-            })
-            .count()
-    }
-
-    /// Whether it has to wait for a link.
-    fn is_crowded(&self, what: Next, authority: &str) -> bool {
-        self.links_to(authority) >= LINKS_OF_HOST
-            || (is_receipt(what) && self.links_for_receipts() >= LINKS_FOR_RECEIPTS)
-    }
-
-    /// Where it goes.
-    fn aim(&mut self, what: Next, authority: &str, now: u64) -> Aim {
-        if authority.is_empty() {
-            return Aim::Unknown;
-        }
-        let is_posted = is_receipt(what);
-        if is_posted && !self.hosts.allow(authority) {
-            return Aim::Barred;
-        }
-        if self.is_crowded(what, authority) {
-            return Aim::Crowded;
-        }
-        match self.names.address(authority, is_posted, now) {
-            Found::At(address) => Aim::At(address),
-            Found::Nowhere => Aim::Nowhere,
-            Found::Later => Aim::Later,
-        }
-    }
-
-    /// Passes it over until a link to its host has ended, or for a while. A receipt that waits for any of the others waits for a short one.
-    fn wait_for_link(&mut self, what: Next, authority: &str, now: u64) {
-        let wait = if self.links_to(authority) >= LINKS_OF_HOST {
-            CROWDED
-        } else {
-            RECEIPTS_CROWDED
-        };
-        if let Ok(host) = String::from_str(self.rt.alloc(), authority) {
-            self.passed.add(what, now.saturating_add(wait), Some(host));
-        }
-    }
-
-    /// Begins a try of what goes there.
-    fn begin_aimed<K: Records>(
+    /// Begins a try of what goes to that authority, or has it wait for a link. Without an authority, the station says why no try begins.
+    fn seek<K: Records>(
         &mut self,
         live: &mut Live<'_, K>,
         what: Next,
-        aim: Aim,
         authority: &str,
         occasion: &Occasion<'_>,
     )
         ensures lives { LivesOn K.shows live.old live.new }
     {
-        match aim {
-            Aim::Crowded => self.wait_for_link(what, authority, occasion.now),
-            Aim::Later => {}
-            Aim::Barred => {
-                note_barred(occasion.log, self.rt.alloc(), what, authority);
-                self.begin(live, what, None, authority, occasion);
-            }
-            Aim::Unknown if self.passed.is_full() => {}
-            Aim::Nowhere | Aim::Unknown => self.begin(live, what, None, authority, occasion),
-            Aim::At(address) => self.begin(live, what, Some(address), authority, occasion),
+        let is_barred = Kind::of(what) == Kind::Receipt && !self.hosts.allow(authority);
+        if authority.is_empty() || is_barred {
+            self.fail(live, what, authority, occasion);
+            return;
+        }
+        let Some(host) = self.waiting.place_of(authority, what) else {
+            return;
+        };
+        if self.may_open(host, what) {
+            self.aim(live, Waiter { host, what }, occasion);
+        } else {
+            self.waiting.add(host, what);
         }
     }
 
-    /// Begins a try of it, over a link to that address. Without one it has failed at once. Where the system has no socket to give, nothing
-    /// begins for now.
+    /// Whether a link to that host may be opened for it at once: one is free, and nothing else waits for it.
+    fn may_open(&self, host: usize, what: Next) -> bool {
+        self.has_free_link() && !self.waiting.is_ready() && self.waiting.may_open(host, what)
+    }
+
+    /// Begins a try that goes nowhere, since there is no authority or no receipt may be sent there.
+    fn fail<K: Records>(
+        &mut self,
+        live: &mut Live<'_, K>,
+        what: Next,
+        authority: &str,
+        occasion: &Occasion<'_>,
+    )
+        ensures lives { LivesOn K.shows live.old live.new }
+    {
+        if !self.has_free_link() || (authority.is_empty() && self.passed.is_full(what)) {
+            return;
+        }
+        if !authority.is_empty() {
+            note_barred(occasion.log, self.rt.alloc(), what, authority);
+        }
+        self.begin(live, what, None, occasion);
+    }
+
+    /// Begins a try at its host, if the host's name may be looked up now. Otherwise it is found again later.
+    fn aim<K: Records>(&mut self, live: &mut Live<'_, K>, waiter: Waiter, occasion: &Occasion<'_>)
+        ensures lives { LivesOn K.shows live.old live.new }
+    {
+        let Waiter { host, what } = waiter;
+        let is_posted = Kind::of(what) == Kind::Receipt;
+        let name = self.waiting.name(host);
+        match self.names.address(name, is_posted, occasion.now) {
+            Found::At(address) => self.begin(live, what, Some(Target { address, host }), occasion),
+            Found::Nowhere => self.begin(live, what, None, occasion),
+            Found::Later => {}
+        }
+    }
+
+    /// Waits until the next look, since the system has no socket to give. What was to go to the target waits with it.
+    fn pause(&mut self, what: Next, target: Option<Target>) {
+        self.is_paused = true;
+        if let Some(Target { host, .. }) = target {
+            self.waiting.put_back(Waiter { host, what });
+        }
+    }
+
+    /// Begins a try of it, over a link to that target. Without one it has failed at once. If the system has no socket to give, or the records
+    /// fail, nothing begins for now.
     fn begin<K: Records>(
         &mut self,
         live: &mut Live<'_, K>,
         what: Next,
-        address: Option<SocketAddr>,
-        authority: &str,
+        target: Option<Target>,
         occasion: &Occasion<'_>,
     )
         ensures lives { LivesOn K.shows live.old live.new }
@@ -462,58 +513,35 @@ impl Sender {
         let Some(at) = live.links().free_place() else {
             return;
         };
-        let dialled = match address {
-            Some(address) => self.dial(at, address, authority, occasion),
+        let dialled = match target {
+            Some(target) => dial(&self.rt, at, target, what, occasion),
             None => Dialled::Nowhere,
         };
         if matches!(dialled, Dialled::Wanting) {
-            self.sweep.end(occasion.now);
+            self.pause(what, target);
             return;
         }
         match live.begin_try(at, what, occasion.moment) {
             TryBegun::NoPlace => {}
             TryBegun::Begun => {
                 self.has_failed = false;
-                self.seat(live, at, dialled, is_receipt(what), occasion);
+                self.seat(live, at, dialled, occasion);
             }
             TryBegun::Refused(reason) => {
                 note_refused(occasion.log, self.rt.alloc(), what, reason);
-                let until = occasion.now.saturating_add(REFUSED);
-                self.passed.add(what, until, None);
+                self.passed.add(what, occasion.now.saturating_add(REFUSED));
             }
-            TryBegun::Failed(fault) => {
-                if !self.has_failed {
-                    note_failed(occasion.log, self.rt.alloc(), what, fault);
-                }
-                self.has_failed = true;
-                self.sweep.end(occasion.now);
-            }
+            TryBegun::Failed(fault) => self.note_failure(what, fault, occasion),
         }
     }
 
-    /// Begins to make a connection to that address. No byte of a request goes over it before its try has begun.
-    fn dial(
-        &self,
-        at: usize,
-        address: SocketAddr,
-        authority: &str,
-        occasion: &Occasion<'_>,
-    ) -> Dialled {
-        let Ok(host) = String::from_str(self.rt.alloc(), authority) else {
-            return Dialled::Wanting;
-        };
-        let mut stream = match TcpStream::connect(&self.rt, address) {
-            Ok(stream) => stream,
-            Err(error) if is_wanting(&error) => return Dialled::Wanting,
-            Err(_) => return Dialled::Failed,
-        };
-        let _ = stream.set_nodelay(true);
-        let interest = Interest::READABLE | Interest::WRITABLE;
-        let token = Token(FIRST.saturating_add(at));
-        match occasion.registry.register(&mut stream, token, interest) {
-            Ok(()) => Dialled::Line(Line::new(stream, host, occasion.now)),
-            Err(_) => Dialled::Wanting,
+    /// The records failed as a try of it was to begin. That is noted once.
+    fn note_failure(&mut self, what: Next, fault: StoreFault, occasion: &Occasion<'_>) {
+        if !self.has_failed {
+            note_failed(occasion.log, self.rt.alloc(), what, fault);
         }
+        self.has_failed = true;
+        self.is_paused = true;
     }
 
     /// Gives a link that was opened its socket. Without one its try has failed.
@@ -522,13 +550,12 @@ impl Sender {
         live: &mut Live<'_, K>,
         at: usize,
         dialled: Dialled,
-        is_receipt: bool,
         occasion: &Occasion<'_>,
     )
         ensures lives { LivesOn K.shows live.old live.new }
     {
         match dialled {
-            Dialled::Line(line) => self.put(at, line, is_receipt),
+            Dialled::Line(line) => self.put(at, line),
             Dialled::Nowhere => self.finish(live, at, LinkFault::UnknownHost, occasion),
             Dialled::Failed | Dialled::Wanting => {
                 self.finish(live, at, LinkFault::NoConnection, occasion);
@@ -537,16 +564,17 @@ impl Sender {
     }
 
     /// Puts a socket at its place.
-    fn put(&mut self, at: usize, line: Line, is_receipt: bool) {
-        let mut line = line;
-        line.is_receipt = is_receipt;
+    fn put(&mut self, at: usize, line: Line) {
+        let (host, kind) = (line.host, line.kind);
         if let Some(seat) = self.lines.get_mut(at) {
             *seat = Some(line);
+            self.waiting.opened(host, kind);
         }
     }
 
     /// Once in a while: links whose time is over are marked as over, and all that is due is looked at anew.
     pub fn look(&mut self, now: u64) {
+        self.is_paused = false;
         self.passed.sweep(now);
         self.sweep.begin_anew(now);
         let waits = self.waits;

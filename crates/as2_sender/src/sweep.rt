@@ -1,65 +1,95 @@
 //! How far the numbers that are due were gone through.
+ghost use Rattle.as2_live.specs.Living.{LivesOn};
 
 use crate::bounds::SWEEP_SHARE;
+use crate::walk::Walk;
+use as2_exchange::Next;
+use as2_live::Live;
+use as2_records::Records;
+use as2_text::Moment;
 
-/// How far the numbers that are due were gone through: receipts, and then documents, each in order. Behind the last one only what is new is
-/// found, until the next sweep begins with the least number again.
+/// Two walks through what is due. What is new has the greatest numbers, so the walk behind the last of them finds it at once, however much
+/// else is due. What falls due again is found by a walk from the least numbers, now and then.
 #[derive(Drop)]
 pub(crate) struct Sweep {
-    /// The receipt that was looked at last.
-    pub receipt: u64,
-    /// The document that was looked at last.
-    pub document: u64,
-    /// No receipt is due behind the last one.
-    pub is_past_receipts: bool,
-    /// Nothing is due behind the last numbers.
-    pub is_through: bool,
-    /// It has not come to the end yet since it began.
-    is_first: bool,
+    fresh: Walk,
+    /// The walk from the least numbers, if one is under way.
+    anew: Option<Walk>,
+    /// Whether all was gone through once.
+    is_seen: bool,
+    /// When the last walk from the least numbers began, and when it ended, in milliseconds.
     began: u64,
     ended: u64,
 }
 
 impl Sweep {
-    /// It begins.
+    /// Nothing was looked at.
     pub(crate) fn new() -> Sweep {
         Sweep {
-            receipt: 0,
-            document: 0,
-            is_past_receipts: false,
-            is_through: false,
-            is_first: true,
+            fresh: Walk::new(),
+            anew: None,
+            is_seen: false,
             began: 0,
             ended: 0,
         }
     }
 
-    /// Something may be due behind the last numbers.
+    /// Something new may be due.
     pub(crate) fn wake(&mut self) {
-        self.is_past_receipts = false;
-        self.is_through = false;
+        self.fresh.wake();
     }
 
-    /// Nothing is due behind the last numbers at this time.
-    pub(crate) fn end(&mut self, now: u64) {
-        self.is_through = true;
-        if self.is_first {
-            self.is_first = false;
+    /// Whether nothing is left to be looked at.
+    pub(crate) fn is_through(&self) -> bool {
+        self.fresh.is_through() && self.anew.is_none()
+    }
+
+    /// What is to be looked at next, what is new before all else; None at the end.
+    pub(crate) fn next<K: Records>(
+        &mut self,
+        live: &mut Live<'_, K>,
+        moment: Moment,
+        now: u64,
+    ) -> Option<Next>
+        ensures lives { LivesOn K.shows live.old live.new }
+    {
+        if self.fresh.is_through() {
+            return self.next_anew(live, moment, now);
+        }
+        let next = self.fresh.next(live, moment);
+        self.is_seen = self.is_seen || next.is_none();
+        next
+    }
+
+    /// What is to be looked at next by the walk from the least numbers; None if there is none, or at its end.
+    fn next_anew<K: Records>(
+        &mut self,
+        live: &mut Live<'_, K>,
+        moment: Moment,
+        now: u64,
+    ) -> Option<Next>
+        ensures lives { LivesOn K.shows live.old live.new }
+    {
+        let Some(walk) = &mut self.anew else {
+            return None;
+        };
+        let next = walk.next(live, moment);
+        if next.is_none() {
+            self.anew = None;
             self.ended = now;
         }
+        next
     }
 
-    /// Begins anew, unless it hasn't ended yet, or took so long that the time since is too short: it has a tenth of the time at most.
+    /// Begins a walk from the least numbers, unless one is under way, or the last one took so long that the time since is too short: these
+    /// walks have a tenth of the time at most.
     pub(crate) fn begin_anew(&mut self, now: u64) {
         let took = self.ended.saturating_sub(self.began);
         let rest = took.saturating_mul(SWEEP_SHARE);
-        if self.is_first || now < self.ended.saturating_add(rest) {
+        if !self.is_seen || self.anew.is_some() || now < self.ended.saturating_add(rest) {
             return;
         }
-        self.receipt = 0;
-        self.document = 0;
-        self.is_first = true;
+        self.anew = Some(Walk::new());
         self.began = now;
-        self.wake();
     }
 }
