@@ -14,7 +14,7 @@ import running
 TIMEOUT = 5  # seconds; the station's `--timeout`
 OF_HOST, OF_ALL, FOR_RECEIPTS = 16, 64, 32  # links to one host and port, in all, and for receipts
 KNOWN = 1  # second that one may be held up by those that are known to hang
-RECEIPTS = 20  # receipts for each host that hangs
+RECEIPTS = 100  # receipts for each host that hangs
 EARLY = 6  # documents whose answers come shortly before their next try
 
 
