@@ -19,6 +19,7 @@
     sending-kills  `kill -9` while it sends: no document is lost or tried too often, and all are settled afterwards
     silent     silent addresses and a partner that hangs: an honest document goes out beside them
     links      documents that wait for one partner: as many links to it as may be are at work
+    hung       partners that hang with many documents and receipts each: others' go out beside them
     gone       documents of a partner who isn't in the agreements any more: those behind go out, and a line a minute
     receipts-to  `--receipts-to`: a receipt goes to no other address
     halts      `stop` while links are open; the next station tries again what was under way
@@ -48,6 +49,7 @@ sys.dont_write_bytecode = True
 import asking
 import cutting
 import doors
+import fairness
 import killing
 import lasting
 import losing
@@ -65,7 +67,7 @@ CASES = {
     "crowd": many.crowd, "slow": slow.slow, "greedy": slow.greedy, "broken": many.broken, "full": many.full, "kills": killing.kills,
     "commands": asking.commands, "two": doors.two, "control": doors.control, "stop": stopping.stop, "lines": stopping.lines,
     "memory": lasting.memory, "lost": losing.lost, "replies": replies.replies, "sending": sending.sending, "sending-kills": cutting.sending_kills, "silent": sending.silent,
-    "links": sending.links, "gone": sending.gone, "receipts-to": sending.receipts_to, "halts": sending.halts, "latency": sending.latency,
+    "links": sending.links, "hung": fairness.hung, "gone": sending.gone, "receipts-to": sending.receipts_to, "halts": sending.halts, "latency": sending.latency,
     "pipelining": turns.pipelining, "bodies": shortage.bodies, "descriptors": shortage.descriptors, "askers": shortage.askers, "extensions": shortage.extensions,
 }
 
@@ -86,7 +88,8 @@ def words():
     asked.add_argument("--minutes", type=float, default=1, help="of `memory`; 20 are the full trial")
     asked.add_argument("--mutated", type=int, default=3000, help="mutated requests of `replies`")
     asked.add_argument("--documents", type=int, default=5000, help="of `sending`")
-    asked.add_argument("--waiting", type=int, default=1500, help="documents of `silent` and `gone` for a partner that hangs")
+    asked.add_argument("--waiting", type=int, default=1500, help="documents of `silent`, `gone` and `hung` for a partner that hangs")
+    asked.add_argument("--hung", type=int, default=4, help="partners of `hung` that hang")
     asked.add_argument("--watch", type=float, default=65, help="seconds that `gone` looks on")
     asked.add_argument("--latencies", type=int, default=300, help="documents of `latency`")
     asked.add_argument("--milliseconds", type=float, default=50, help="the most that one of a hundred of them may not pass")

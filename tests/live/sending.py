@@ -110,7 +110,7 @@ def same(differences, what, found, wanted):
 
 class Four:
     """Four partners, and who gets which document: one refuses each connection, one takes documents and posts their receipts much later,
-    eight of a hundred documents go to one that hangs, and one of a hundred to one that answers a byte a second."""
+    one of a hundred documents goes to one that hangs, over one link at a time once it is known to, and one to one that answers a byte a second."""
 
     def __init__(self):
         self.hangs = Partner("Hangs", never, tries=2, retry=8)
@@ -121,7 +121,7 @@ class Four:
 
     def partner_of(self, number):
         at = number % 100
-        return self.slow if at == 50 else self.hangs if at % 12 == 5 else self.refuses if at % 2 else self.posts
+        return self.slow if at == 50 else self.hangs if at == 5 else self.refuses if at % 2 else self.posts
 
     def posted(self, number):
         """The receipt that is posted for a document, and how that settles it; None where none is posted."""
@@ -171,7 +171,7 @@ def begin_all(desk, four, given, differences):
         took = time.monotonic() - began
         differences.expect("sending: the numbers of the documents", numbers == list(range(1, given.documents + 1)), True)
         rounds = 2 + given.documents // 100 / OF_HOST  # of the slow one's documents, each of which takes two tries
-        patience = running.PATIENCE + 100 * rounds + 2 * 5 * given.documents * 0.09 / OF_HOST
+        patience = running.PATIENCE + 100 * rounds + 2 * 5 * given.documents * 0.01
         differences.expect("sending: all tries are made", until(desk.is_done, patience), True)
         whole, used = time.monotonic() - began, station.seconds()
         differences.expect("sending: odd lines", station.odd_lines(), [])

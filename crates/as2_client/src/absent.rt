@@ -50,7 +50,9 @@ pub fn hint_made(rt: &HostRuntime, absent: Option<&str>) {
     if is_absent(rt, path) {
         return;
     }
-    if let Ok(line) = format!(in rt.alloc(); "hint: there was no store; a new one was made: {path}\n") {
+    if let Ok(line) = format!(in rt.alloc();
+        "hint: there was no store; a new one was made: {path}\n"
+    ) {
         let _ = rt.stderr().write_all(line.as_str().as_bytes());
     }
 }

@@ -198,7 +198,11 @@ fn parts_of<R: Rounds + Drop>(live: Live<'_, Bounded<R>>) -> (Hub, R)
 fn lost_records<L: Records + Drop>(round: Live<'_, Bounded<L>>) -> L
     ensures { result ≡ round.entry.desk.station.records }
 {
-    round.into_desk().into_station().into_records().into_records()
+    round
+        .into_desk()
+        .into_station()
+        .into_records()
+        .into_records()
 }
 
 /// No connection is open yet.

@@ -255,11 +255,7 @@ impl Shell {
 
     /// When the limits are looked at next, in milliseconds.
     fn next_look(&self) -> u64 {
-        let every = if self.door.is_short {
-            SHORT_LOOK
-        } else {
-            LOOK
-        };
+        let every = if self.door.is_short { SHORT_LOOK } else { LOOK };
         self.looked.saturating_add(every)
     }
 

@@ -164,7 +164,7 @@ impl Waiting {
             queue.since = turn;
         }
         if queue.numbers.push_back(number_of(what)).is_err() {
-            self.drop(what);
+            self.forget(what);
         }
     }
 
@@ -178,7 +178,7 @@ impl Waiting {
         };
         let queue = host.queue_mut(Kind::of(waiter.what));
         if queue.numbers.push_front(number_of(waiter.what)).is_err() {
-            self.drop(waiter.what);
+            self.forget(waiter.what);
         }
     }
 
@@ -192,7 +192,7 @@ impl Waiting {
     }
 
     /// Keeps no more that it waits.
-    fn drop(&mut self, what: Next) {
+    fn forget(&mut self, what: Next) {
         match what {
             Next::Receipt(number) => self.receipts.remove(&number),
             Next::Document(number) => self.documents.remove(&number),
@@ -221,7 +221,7 @@ impl Waiting {
         let number = queue.numbers.pop_front()?;
         queue.since = turn;
         let what = kind.numbered(number);
-        self.drop(what);
+        self.forget(what);
         Some(Waiter { host: at, what })
     }
 
