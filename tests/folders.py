@@ -9,7 +9,7 @@ Beside the rounds of hand-in.sh somebody submits documents by hand: none, of oth
 each file has to lie in `sent` under the number of a document of its bytes, no two under one, and no other document may be there.
 `at the step` has the document submitted by hand amid the round. `again` kills the run that goes on after a stop.
 
-Then: what the issue of 0.17.1 told (a full store, a document by hand, the next round), a disk that is full at each size (where one may be
+Then: what was found of 0.17.1 (a full store, a document by hand, the next round), a disk that is full at each size (where one may be
 mounted), what a round costs, and stores that are put back. Prints a line for each; the status is 1 if anything is wrong.
 tests/folders.sh runs it. `folders.py [PROGRAM [EXAMPLES]]`: EXAMPLES is a folder with the three scripts, examples/ without.
 """

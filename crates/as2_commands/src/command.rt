@@ -48,7 +48,7 @@ fn titled<'a>(alloc: Global) -> Command<'a>
     ensures { app_of result ≡ titled_program }
 {
     Command::new(alloc, "as2desk")
-        .version("0.17.1")
+        .version("0.18.0")
         .about("An AS2 station: takes documents from partners and answers with receipts")
         .after_help(help::PROGRAM)
 }
