@@ -1,10 +1,12 @@
 -- What a connection that has opened on the files of a store of an earlier version stands for, and the state that it has once it is migrated.
 use Rattle.std.proofs.Common.{◌≡◌, ◌∙◌, ℕ, true, false, Some, Result, Ok, Err, IfOk, refl, sym, ap, subst, arith}
+use Rattle.sqlite_disk.specs.declared.Disk as disk
 use Rattle.sqlite_wal.specs.Recovery.{Image}
+use Rattle.sqlite_store.specs.declared.store.FileStore.{FileStore}
 use Rattle.sqlite.specs.Effect.{Database}
+use Rattle.sqlite.specs.Files.{file_state}
 use Rattle.sqlite.specs.Held.{Held, state}
-use Rattle.sqlite.specs.Start.{FindsIn}
-use Rattle.sqlite.specs.State.{State as Connected, HasCleanDisk, IsRolledBack, Opens, IsLive, Survives}
+use Rattle.sqlite.specs.State.{State as Connected, HasCleanDisk, IsRolledBack, Survives}
 use Rattle.sqlite.specs.Store.{Ghosts}
 use Rattle.sqlite.proofs.StateLemmas.{survives_then}
 use Rattle.sqlite.proofs.Callers.{survives_begin}
@@ -15,19 +17,36 @@ use Rattle.as2_store.specs.Calls.{IsGivenBack, IsInside, ReachesTables}
 use Rattle.as2_store.specs.Migrating.{RestsAs, migrated_from}
 use Rattle.as2_store.specs.Stands.{Holds, Rests, Stands}
 use Rattle.as2_store.specs.Tables.{Layout, VersionOne, VersionTwo, VersionThree}
-use Rattle.as2_storage.specs.Files.{HoldsAs}
-use Rattle.as2_storage.proofs.Opening.{rests_held_as}
+use Rattle.as2_store.specs.Files.{HoldsState}
+use Rattle.as2_storage.specs.Files.{HoldsAs, IsSettled, IsSettledFrom}
 use Rattle.as2_files.specs.Earlier.{IsEarlier}
 
--- ---- an open
+-- ---- a store whose log was copied into its file
 
--- what a connection that may have opened stands for
-pub each_opens : {C E : Type 0} (shown : C → Connected) (image : Image) (r : Result C E)
-    → IfOk r (λ c. HasCleanDisk (shown c) → Opens (shown c) × IsLive (shown c)) → IfOk r (λ c. HasCleanDisk (shown c) → FindsIn image (shown c))
-    → IfOk r (λ c. HasCleanDisk (shown c) → (layout : Layout) (s : State) → HoldsAs layout image s → RestsAs layout (shown c) s)
-each_opens shown image (Ok c) opened finds = λ clean layout s held. let it =
-    opened clean in rests_held_as layout (shown c) image s it.0 it.1 (finds clean).holds held
-each_opens shown image (Err e) opened finds = tt
+-- what it stands for is what it stood for as it was opened
+pub settled_found : {D E : Type 0} {g : disk.Ghosts D} (before : Held (FileStore D g)) (image : Image) (r : Result (Held (FileStore D g)) E)
+    → IfOk r (λ c. HasCleanDisk (file_state c) → IsSettledFrom g before c)
+    → (HasCleanDisk (file_state before) → (s : State) → HoldsState image s → Rests (file_state before) s)
+    → IfOk r (λ c. HasCleanDisk (file_state c) → (s : State) → Rests (file_state before) s → Rests (file_state c) s)
+    → IfOk r (λ c. HasCleanDisk (file_state c) → (s : State) → HoldsState image s → Rests (file_state c) s)
+settled_found before image (Ok c) settled found same = λ clean s held. same clean s (found (settled clean).copied.was_clean s held)
+settled_found before image (Err e) settled found same = tt
+
+-- in tables of any version
+pub settled_earlier : {D E : Type 0} {g : disk.Ghosts D} (before : Held (FileStore D g)) (image : Image) (r : Result (Held (FileStore D g)) E)
+    → IfOk r (λ c. HasCleanDisk (file_state c) → IsSettledFrom g before c)
+    → (HasCleanDisk (file_state before) → (layout : Layout) (s : State) → HoldsAs layout image s → RestsAs layout (file_state before) s)
+    → IfOk r (λ c. HasCleanDisk (file_state c) → (layout : Layout) (s : State) → RestsAs layout (file_state before) s → RestsAs layout (file_state c) s)
+    → IfOk r (λ c. HasCleanDisk (file_state c) → (layout : Layout) (s : State) → HoldsAs layout image s → RestsAs layout (file_state c) s)
+settled_earlier before image (Ok c) settled found same =
+    λ clean layout s held. same clean layout s (found (settled clean).copied.was_clean layout s held)
+settled_earlier before image (Err e) settled found same = tt
+
+-- and it was copied
+pub settled_any : {D E : Type 0} {g : disk.Ghosts D} (before : Held (FileStore D g)) (r : Result (Held (FileStore D g)) E)
+    → IfOk r (λ c. HasCleanDisk (file_state c) → IsSettledFrom g before c) → IfOk r (λ c. HasCleanDisk (file_state c) → IsSettled g c)
+settled_any before (Ok c) settled = λ clean. (before, settled clean)
+settled_any before (Err e) settled = tt
 
 -- ---- what is counted, and given back
 
