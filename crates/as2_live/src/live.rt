@@ -1,5 +1,6 @@
 //! A live station, as whoever has its sockets drives it.
-ghost use Rattle.std.specs.Prelude.{◌≡◌, ◌∷◌, ◌⊎◌, [], IfErr, IfOk, IfSome, min, is_none, is_some, length, list_any, position, slice_get, take, true};
+ghost use Rattle.std.specs.Prelude.{◌≡◌, ◌∷◌, ◌⊎◌, [], IfErr, IfOk, IfSome, min, is_none, is_some, length, position, slice_get, take, true};
+ghost use Rattle.std.specs.List.{list_any};
 ghost use Rattle.as2_hub.specs.Places.{is_vacant, output_at, places, room_in};
 ghost use Rattle.as2_hub.specs.Happenings.{Closes};
 ghost use Rattle.as2_hub.specs.Inputs.{comes_if, goes_to, opens_if};

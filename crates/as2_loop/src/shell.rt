@@ -87,7 +87,7 @@ struct Parted {
 }
 
 /// Parts these places: of the first that are ready, as many as one round takes, a request is answered.
-fn parted(alloc: Global, hub: &Hub, places: &[usize]) -> io::Result<Parted> {
+fn part_ready(alloc: Global, hub: &Hub, places: &[usize]) -> io::Result<Parted> {
     let mut ready = Vec::new(alloc);
     let mut order = Vec::new(alloc);
     for at in places {
@@ -284,7 +284,7 @@ impl Shell {
     {
         let mut live = live;
         let places = self.take_in(&mut live, events)?;
-        let Parted { ready, order } = parted(self.rt.alloc(), live.hub(), &places)?;
+        let Parted { ready, order } = part_ready(self.rt.alloc(), live.hub(), &places)?;
         match self.settle(basis, live, &ready) {
             Ok(settled) => {
                 let mut settled = settled;
