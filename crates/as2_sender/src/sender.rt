@@ -43,14 +43,9 @@ fn is_due<K: Records>(live: &mut Live<'_, K>, what: Next, moment: Moment) -> boo
     }
 }
 
-/// Whether one might have begun the second before.
-fn was_due<K: Records>(live: &mut Live<'_, K>, what: Next, moment: Moment) -> bool
-    ensures lives { LivesOn K.shows live.old live.new }
-{
-    match Moment::new(moment.seconds().saturating_sub(1)) {
-        Some(moment) => is_due(live, what, moment),
-        None => false,
-    }
+/// The second before that moment.
+fn second_before(moment: Moment) -> Moment {
+    Moment::new(moment.seconds().saturating_sub(1)).unwrap_or(moment)
 }
 
 /// Begins to make a connection to that target. No byte of a request goes over it before its try has begun.
@@ -370,9 +365,10 @@ impl Sender {
             if self.is_ending || !self.may_serve() {
                 return;
             }
-            if let Some(waiter) = self.waiting.take() {
-                self.serve(live, waiter, occasion);
-            }
+            let Some(waiter) = self.waiting.take() else {
+                return;
+            };
+            self.serve(live, waiter, occasion);
         }
     }
 
@@ -385,11 +381,16 @@ impl Sender {
         }
     }
 
+    /// Whether it was refused a while ago, or waits for a link.
+    fn is_kept(&self, what: Next, now: u64) -> bool {
+        self.passed.holds(what, now) || self.waiting.holds(what)
+    }
+
     /// Looks at what is due. If a link is open for it, that may be over; otherwise a try begins, or waits for a link.
     fn look_at<K: Records>(&mut self, live: &mut Live<'_, K>, what: Next, occasion: &Occasion<'_>)
         ensures lives { LivesOn K.shows live.old live.new }
     {
-        if self.passed.holds(what, occasion.now) || self.waiting.holds(what) {
+        if self.is_kept(what, occasion.now) {
             return;
         }
         if let Some(at) = live.place_for(what) {
@@ -414,7 +415,7 @@ impl Sender {
     )
         ensures lives { LivesOn K.shows live.old live.new }
     {
-        if was_due(live, what, occasion.moment) {
+        if is_due(live, what, second_before(occasion.moment)) {
             let fault = self.fault_at(at, occasion.now);
             self.finish(live, at, fault, occasion);
         }
@@ -446,16 +447,21 @@ impl Sender {
         let Some(host) = self.waiting.place_of(authority, what) else {
             return;
         };
-        if self.may_open(host, what) {
-            self.aim(live, Waiter { host, what }, occasion);
-        } else {
+        if !self.may_open(host, what) {
             self.waiting.add(host, what);
+            return;
         }
+        self.aim(live, Waiter { host, what }, occasion);
     }
 
     /// Whether a link to that host may be opened for it at once: one is free, and nothing else waits for it.
     fn may_open(&self, host: usize, what: Next) -> bool {
         self.has_free_link() && !self.waiting.is_ready() && self.waiting.may_open(host, what)
+    }
+
+    /// Whether a try that goes nowhere may begin. What the station is to refuse begins only if it can be passed over afterwards.
+    fn may_fail(&self, what: Next, authority: &str) -> bool {
+        self.has_free_link() && !(authority.is_empty() && self.passed.is_full(what))
     }
 
     /// Begins a try that goes nowhere, since there is no authority or no receipt may be sent there.
@@ -468,7 +474,7 @@ impl Sender {
     )
         ensures lives { LivesOn K.shows live.old live.new }
     {
-        if !self.has_free_link() || (authority.is_empty() && self.passed.is_full(what)) {
+        if !self.may_fail(what, authority) {
             return;
         }
         if !authority.is_empty() {
