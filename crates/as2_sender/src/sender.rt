@@ -350,7 +350,7 @@ impl Sender {
             if self.is_ending || self.is_paused {
                 return;
             }
-            let Some(what) = self.sweep.next(live, occasion.moment, occasion.now) else {
+            let Some(what) = self.sweep.next_due(live, occasion.moment, occasion.now) else {
                 return;
             };
             self.look_at(live, what, occasion);

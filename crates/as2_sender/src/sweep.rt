@@ -45,7 +45,7 @@ impl Sweep {
     }
 
     /// What is to be looked at next, what is new before all else; None at the end.
-    pub(crate) fn next<K: Records>(
+    pub(crate) fn next_due<K: Records>(
         &mut self,
         live: &mut Live<'_, K>,
         moment: Moment,
