@@ -16,3 +16,6 @@ returns-in-Err g c = record { lives = on_none g.K.Records.shows c.args.live.now 
 
 pub returns-in-Err-2 : goal.returns-in-Err-2
 returns-in-Err-2 g c = record { lives = on_none g.K.Records.shows c.args.live.now }
+
+pub returns-then-room-eq0 : goal.returns-then-room-eq0
+returns-then-room-eq0 g c = record { lives = on_none g.K.Records.shows c.args.live.now }
