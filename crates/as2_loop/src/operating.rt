@@ -227,6 +227,8 @@ fn turn_over<R: Rounds + Drop, O: OpenStores>(
     let Held { basis, hub, shell } = held;
     let mut shell = shell;
     let links = shell.new_links()?;
+    // (made before it is needed, since a round may be lost as memory is short)
+    let spare = new_hub(basis.alloc)?;
     let live = answering(&basis, moment, records, hub, links);
     match shell.run(&basis, stores, live)? {
         Ok(live) => {
@@ -238,10 +240,13 @@ fn turn_over<R: Rounds + Drop, O: OpenStores>(
         }
         Err(round) => {
             let records = lost_records(round);
-            let hub = new_hub(basis.alloc)?;
             Ok(Turned {
                 records: Err(records),
-                held: Held { basis, hub, shell },
+                held: Held {
+                    basis,
+                    hub: spare,
+                    shell,
+                },
             })
         }
     }

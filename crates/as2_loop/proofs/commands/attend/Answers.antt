@@ -14,6 +14,11 @@ returns-in_default g c =
     subst (λ (l : Option (Live (Bounded g.row.R.Denot))). IfSome l (RunsOn g.R.Records.shows c.args.basis.now c.args.live)) (sym c.unheard.ensures.live)
     (goes_none g.R.Records.shows c.args.basis.now c.args.live)
 
+pub returns-in_default-texts_of : goal.returns-in_default-texts_of
+returns-in_default-texts_of g c =
+    subst (λ (l : Option (Live (Bounded g.row.R.Denot))). IfSome l (RunsOn g.R.Records.shows c.args.basis.now c.args.live))
+    (sym c.unheard-in_default-texts_of.ensures.live) (goes_none g.R.Records.shows c.args.basis.now c.args.live)
+
 pub returns-in-Stops : goal.returns-in-Stops
 returns-in-Stops g c =
     subst (λ (l : Option (Live (Bounded g.row.R.Denot))). IfSome l (RunsOn g.R.Records.shows c.args.basis.now c.args.live))

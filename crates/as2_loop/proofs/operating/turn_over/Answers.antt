@@ -11,4 +11,4 @@ pub returns-in-Err-clause-over : goal.returns-in-Err-clause-over
 returns-in-Err-clause-over g c text =
     left_lost g.R.Records.shows g.R.Round.Records.shows c.args.held.basis c.args.records c.answering-live.result c.answering-live.ensures.records
     (record { text = text; agreed = c.answering-live.ensures.agreed }) c.in_ok-live.field-0 c.in_ok-live.ensures c.in-Err.round
-    c.parts_of-hub-in-Err.result.1 c.in-Err.is c.parts_of-hub-in-Err.ensures
+    c.lost_records-records.result c.in-Err.is c.lost_records-records.ensures
